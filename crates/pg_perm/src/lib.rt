@@ -1,0 +1,23 @@
+//! The types that the layers share: names, rules and faults, and the draft of a protocol as its text states it.
+//!
+//! All of it is plain data, which contracts see as its fields; a list of a draft is seen as a list and a name as its bytes.
+//! docs/TEXT.md has the form of the text that a draft comes from.
+#![tactic(auto)]
+
+mod draft;
+mod fault;
+mod kinds;
+mod sequence;
+mod word;
+
+pub use draft::{
+    Action, CacheLine, Caches, CoreForm, CoreLine, Cores, DirLine, Dirs, Draft, Messages, MsgClass,
+    MsgLine, Pair, Pairs, ReplyName, RowForm, RowLine, Rows, States, TakeLine, Takes,
+};
+pub use fault::{Fault, Rule};
+pub use kinds::{DirKind, Event, FwdClass, Left, Perm, ReqClass, Role, Who};
+pub use sequence::Sequence;
+pub use word::{Word, is_name, is_state_name};
+
+#[cfg(test)]
+mod tests;

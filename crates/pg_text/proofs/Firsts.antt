@@ -1,0 +1,18 @@
+use Rattle.std.proofs.Common.{◌≡◌, ℕ, Bool, true, false, List, [], ◌∷◌, refl, ap, sym, ◌∙◌, Option, Some, None}
+use Rattle.std.specs.Prelude.{◌&&◌}
+use Rattle.std.proofs.lemmas.Option.{same_Some}
+use Rattle.pg_perm.specs.Names.{is_name, is_state_name}
+use Rattle.pg_text.specs.Lines.{first_rest}
+use Rattle.pg_text.specs.Forms.{are_pairs}
+
+-- a list with a first element is that element and the rest
+pub first_rest_is : {A : Type 0} (xs : List A) (x : A) (rest : List A) → Some (x, rest) ≡ first_rest xs → xs ≡ x ∷ rest
+first_rest_is [] x rest h = cc
+first_rest_is {A} (y ∷ ys) x rest h = ap (λ (p : A × List A). p.0 ∷ p.1) (sym (same_Some (x, rest) (y, ys) h))
+
+-- behind a reply and a final state the rest answers for all
+pub pairs_behind : (left rest behind : List (List ℕ)) (reply fin : List ℕ) → Some (reply, rest) ≡ first_rest left → Some (fin, behind) ≡ first_rest rest
+    → is_name reply ≡ true → is_state_name fin ≡ true → are_pairs left ≡ are_pairs behind
+pairs_behind left rest behind reply fin h g named state =
+    ap are_pairs (first_rest_is left reply rest h) ∙ ap (λ ws. are_pairs (reply ∷ ws)) (first_rest_is rest fin behind g)
+    ∙ ap (λ b. (b && is_state_name fin) && are_pairs behind) named ∙ ap (λ b. b && are_pairs behind) state

@@ -1,0 +1,80 @@
+use Rattle.std.specs.Prelude.{ℕ, ◌≡◌, ◌≢◌, ◌<◌, ◌≤◌, Bool, true, false, ◌&&◌, not, List, [], ◌∷◌, ◌++◌, length, codes, Option, Some, None, IsTrue, IfSome}
+use Rattle.pg_perm.specs.Names.{is_name, is_state_name}
+use Rattle.pg_perm.specs.declared.kinds.Role.{Role}
+use Rattle.pg_perm.specs.declared.kinds.Role.TheVariants.{Out, Shared, Owner}
+use Rattle.pg_perm.specs.declared.kinds.Perm.{Perm}
+use Rattle.pg_perm.specs.declared.kinds.Perm.TheVariants as perm
+use Rattle.pg_perm.specs.declared.kinds.ReqClass.{ReqClass}
+use Rattle.pg_perm.specs.declared.kinds.ReqClass.TheVariants as asks
+use Rattle.pg_perm.specs.declared.kinds.Event.{Event}
+use Rattle.pg_perm.specs.declared.kinds.Event.TheVariants.{Load, Store, Evict}
+use Rattle.pg_perm.specs.declared.draft.MsgClass.{MsgClass}
+use Rattle.pg_perm.specs.declared.draft.MsgClass.TheVariants.{Request, Forward, Reply}
+use Rattle.pg_text.specs.declared.line.Line.{Line}
+use Rattle.pg_text.specs.declared.line.Line.TheVariants.{Protocol, Cache, Message, Core, End}
+use Rattle.pg_text.specs.declared.line.CoreShape.{CoreShape}
+use Rattle.pg_text.specs.declared.line.CoreShape.TheVariants.{Hit, Ask, Leave}
+
+abbrev pub role_word : Role → List ℕ
+role_word Out = codes "out"
+role_word Shared = codes "shared"
+role_word Owner = codes "owner"
+
+abbrev pub perm_word : Perm → List ℕ
+perm_word perm.None = codes "none"
+perm_word perm.Read = codes "read"
+perm_word perm.Write = codes "write"
+
+abbrev pub request_word : ReqClass → List ℕ
+request_word asks.Read = codes "read"
+request_word asks.Write = codes "write"
+request_word asks.Clean = codes "clean"
+request_word asks.Dirty = codes "dirty"
+
+abbrev pub event_word : Event → List ℕ
+event_word Load = codes "load"
+event_word Store = codes "store"
+event_word Evict = codes "evict"
+
+-- the words of a line behind its event
+abbrev pub shape_words : CoreShape → List (List ℕ)
+shape_words (Hit None) = codes "hit" ∷ []
+shape_words (Hit (Some next)) = codes "hit" ∷ next ∷ []
+shape_words (Ask request pairs) = request ∷ pairs
+shape_words (Leave request) = request ∷ []
+
+-- the words of a line
+abbrev pub spelling : Line → List (List ℕ)
+spelling (Protocol name) = codes "protocol" ∷ name ∷ []
+spelling (Cache name role perm false) = codes "cache" ∷ name ∷ role_word role ∷ perm_word perm ∷ []
+spelling (Cache name role perm true) = codes "cache" ∷ name ∷ role_word role ∷ perm_word perm ∷ codes "clean" ∷ []
+spelling (Message name (Request class)) = codes "request" ∷ name ∷ request_word class ∷ []
+spelling (Message name (Forward class)) = []
+spelling (Message name Reply) = codes "reply" ∷ name ∷ codes "data" ∷ []
+spelling (Core state event shape) = codes "core" ∷ state ∷ event_word event ∷ shape_words shape
+spelling End = codes "end" ∷ []
+
+-- replies and final states in turn
+abbrev pub are_pairs : List (List ℕ) → Bool
+are_pairs [] = true
+are_pairs (reply ∷ []) = false
+are_pairs (reply ∷ fin ∷ more) = is_name reply && is_state_name fin && are_pairs more
+
+-- a load or a store hits or asks, and an evict leaves
+abbrev pub IsShapeOf : Event → CoreShape → Type 0
+IsShapeOf Evict (Leave request) = IsTrue (is_name request)
+IsShapeOf Evict (Hit next) = ⊥
+IsShapeOf Evict (Ask request pairs) = ⊥
+IsShapeOf event (Hit next) = IfSome next (λ w. IsTrue (is_state_name w))
+IsShapeOf event (Ask request pairs) = IsTrue (is_name request) × IsTrue (are_pairs pairs) × (pairs ≢ [])
+IsShapeOf event (Leave request) = ⊥
+
+-- each of its words is a name of its kind, and there is such a line
+abbrev pub IsWellNamed : Line → Type 0
+IsWellNamed (Protocol name) = IsTrue (is_name name)
+IsWellNamed (Cache name role perm clean) = IsTrue (is_state_name name)
+IsWellNamed (Message name (Request class)) = IsTrue (is_name name)
+IsWellNamed (Message name (Forward class)) = ⊥
+IsWellNamed (Message name Reply) = IsTrue (is_name name)
+IsWellNamed (Core state event shape) = IsTrue (is_state_name state) × IsShapeOf event shape
+IsWellNamed End = Unit {0}

@@ -1,0 +1,47 @@
+use Rattle.std.specs.Prelude.{ℕ, Bool, ◌==◌, ◌+◌, List, [], ◌∷◌, length, take, drop, Option, Some, None, position}
+use Rattle.std.specs.List.{slice_split}
+use Rattle.std.specs.Option.{option_map}
+use Rattle.std.specs.Borrow.{Bor}
+
+-- the parts without an empty last one: nothing after the last newline is no line
+abbrev pub without_empty_last : List (List ℕ) → List (List ℕ)
+without_empty_last [] = []
+without_empty_last ([] ∷ []) = []
+without_empty_last (part ∷ parts) = part ∷ without_empty_last parts
+
+-- the lines of a text, without their newlines
+abbrev pub lines_of : List ℕ → List (List ℕ)
+lines_of bytes = without_empty_last (slice_split (λ b. b == 10) bytes)
+
+-- the words of a line, which single spaces part: where two spaces meet, or one is at an end, there is an empty word
+abbrev pub words_of : List ℕ → List (List ℕ)
+words_of line = slice_split (λ b. b == 32) line
+
+-- the words of what is left of a line
+abbrev pub words_left : Option (Bor (List ℕ)) → List (List ℕ)
+words_left None = []
+words_left (Some rest) = words_of rest.now
+
+-- the first element, and the list without it
+abbrev pub first_rest : {A : Type 0} → List A → Option (A × List A)
+first_rest [] = None
+first_rest (x ∷ xs) = Some (x, xs)
+
+-- the bytes before the first c, and those behind it
+abbrev pub cut_at : ℕ → List ℕ → Option (List ℕ × List ℕ)
+cut_at c bytes = option_map (λ i. (take i bytes, drop (i + 1) bytes)) (position (λ b. b == c) bytes)
+
+-- the parts from a cut on
+abbrev pub parts_of_cut : ℕ → List ℕ → Option (List ℕ × List ℕ) → List (List ℕ)
+parts_of_cut c bytes None = bytes ∷ []
+parts_of_cut c bytes (Some p) = p.0 ∷ slice_split (λ b. b == c) p.1
+
+-- the line before a cut, or all of it
+abbrev pub line_of_cut : List ℕ → Option (List ℕ × List ℕ) → Option (List ℕ × List ℕ)
+line_of_cut bytes None = Some (bytes, [])
+line_of_cut bytes (Some p) = Some p
+
+-- the first line, and the bytes behind its newline
+abbrev pub first_line : List ℕ → Option (List ℕ × List ℕ)
+first_line [] = None
+first_line (b ∷ bs) = line_of_cut (b ∷ bs) (cut_at 10 (b ∷ bs))

@@ -1,0 +1,160 @@
+use Rattle.std.specs.Prelude.{ℕ, Bool, true, false, ◌&&◌, List, [], ◌∷◌, codes, Option, Some, None, if◌then◌else◌}
+use Rattle.std.specs.Str.{bytes_eq}
+use Rattle.pg_perm.specs.Names.{is_name, is_state_name}
+use Rattle.pg_perm.specs.declared.kinds.Role.{Role}
+use Rattle.pg_perm.specs.declared.kinds.Role.TheVariants.{Out, Shared, Owner}
+use Rattle.pg_perm.specs.declared.kinds.Perm.{Perm}
+use Rattle.pg_perm.specs.declared.kinds.Perm.TheVariants as perm
+use Rattle.pg_perm.specs.declared.kinds.ReqClass.{ReqClass}
+use Rattle.pg_perm.specs.declared.kinds.ReqClass.TheVariants as asks
+use Rattle.pg_perm.specs.declared.kinds.Event.{Event}
+use Rattle.pg_perm.specs.declared.kinds.Event.TheVariants.{Load, Store, Evict}
+use Rattle.pg_perm.specs.declared.draft.MsgClass.{MsgClass}
+use Rattle.pg_perm.specs.declared.draft.MsgClass.TheVariants.{Request, Forward, Reply}
+use Rattle.pg_text.specs.declared.line.Line.{Line}
+use Rattle.pg_text.specs.declared.line.Line.TheVariants.{Protocol, Cache, Message, Core, End}
+use Rattle.pg_text.specs.declared.line.CoreShape.{CoreShape}
+use Rattle.pg_text.specs.declared.line.CoreShape.TheVariants.{Hit, Ask, Leave}
+use Rattle.pg_text.specs.Lines.{first_rest}
+use Rattle.pg_text.specs.Forms.{are_pairs}
+
+-- what the value of an option leads to
+infixl 10 ◌>>=◌
+abbrev pub ◌>>=◌ : {A B : Type 0} → Option A → (A → Option B) → Option B
+None >>= f = None
+(Some x) >>= f = f x
+
+abbrev pub role_of : List ℕ → Option Role
+role_of w = if bytes_eq w (codes "out") then Some Out
+  else if bytes_eq w (codes "shared") then Some Shared
+  else if bytes_eq w (codes "owner") then Some Owner
+  else None
+
+abbrev pub perm_of : List ℕ → Option Perm
+perm_of w = if bytes_eq w (codes "none") then Some perm.None
+  else if bytes_eq w (codes "read") then Some perm.Read
+  else if bytes_eq w (codes "write") then Some perm.Write
+  else None
+
+abbrev pub request_of : List ℕ → Option ReqClass
+request_of w = if bytes_eq w (codes "read") then Some asks.Read
+  else if bytes_eq w (codes "write") then Some asks.Write
+  else if bytes_eq w (codes "clean") then Some asks.Clean
+  else if bytes_eq w (codes "dirty") then Some asks.Dirty
+  else None
+
+abbrev pub event_of : List ℕ → Option Event
+event_of w = if bytes_eq w (codes "load") then Some Load
+  else if bytes_eq w (codes "store") then Some Store
+  else if bytes_eq w (codes "evict") then Some Evict
+  else None
+
+-- the first word where it is a name, and the words behind it
+unfoldable pub name_at : List (List ℕ) → Option (List ℕ × List (List ℕ))
+name_at ws = do
+  w ← first_rest ws
+  if is_name w.0 then Some w else None
+
+-- the first word where it is the name of a state, and the words behind it
+unfoldable pub state_at : List (List ℕ) → Option (List ℕ × List (List ℕ))
+state_at ws = do
+  w ← first_rest ws
+  if is_state_name w.0 then Some w else None
+
+-- nothing, where no word is left
+abbrev pub ended : List (List ℕ) → Option (Unit {0})
+ended [] = Some tt
+ended (w ∷ ws) = None
+
+unfoldable pub protocol_line : List (List ℕ) → Option Line
+protocol_line ws = do
+  name ← name_at ws
+  end ← ended name.1
+  Some (Protocol name.0)
+
+-- whether `clean` is all that is left, or nothing is
+abbrev pub clean_of : List (List ℕ) → Option Bool
+clean_of [] = Some false
+clean_of (w ∷ []) = if bytes_eq w (codes "clean") then Some true else None
+clean_of (w ∷ v ∷ ws) = None
+
+unfoldable pub cache_line : List (List ℕ) → Option Line
+cache_line ws = do
+  name ← state_at ws
+  word ← first_rest name.1
+  role ← role_of word.0
+  word ← first_rest word.1
+  perm ← perm_of word.0
+  clean ← clean_of word.1
+  Some (Cache name.0 role perm clean)
+
+unfoldable pub request_line : List (List ℕ) → Option Line
+request_line ws = do
+  name ← name_at ws
+  word ← first_rest name.1
+  class ← request_of word.0
+  end ← ended word.1
+  Some (Message name.0 (Request class))
+
+unfoldable pub reply_line : List (List ℕ) → Option Line
+reply_line ws = do
+  name ← name_at ws
+  word ← first_rest name.1
+  end ← ended word.1
+  if bytes_eq word.0 (codes "data") then Some (Message name.0 Reply) else None
+
+-- `hit`, and perhaps a state
+abbrev pub hit_shape : List ℕ → Option (List ℕ) → Option CoreShape
+hit_shape w None = if bytes_eq w (codes "hit") then Some (Hit None) else None
+hit_shape w (Some next) = if bytes_eq w (codes "hit") then (if is_state_name next then Some (Hit (Some next)) else None) else None
+
+-- a request, with replies and final states
+abbrev pub ask_shape : List ℕ → List (List ℕ) → Option CoreShape
+ask_shape w pairs = if is_name w && are_pairs pairs then Some (Ask w pairs) else None
+
+-- what stands behind `load` or `store`
+abbrev pub asking_shape : List (List ℕ) → Option CoreShape
+asking_shape [] = None
+asking_shape (w ∷ []) = hit_shape w None
+asking_shape (w ∷ next ∷ []) = hit_shape w (Some next)
+asking_shape (w ∷ reply ∷ fin ∷ more) = ask_shape w (reply ∷ fin ∷ more)
+
+-- what stands behind `evict`
+unfoldable pub leaving_shape : List (List ℕ) → Option CoreShape
+leaving_shape ws = do
+  request ← name_at ws
+  end ← ended request.1
+  Some (Leave request.0)
+
+abbrev pub shape_of : Event → List (List ℕ) → Option CoreShape
+shape_of Evict ws = leaving_shape ws
+shape_of event ws = asking_shape ws
+
+unfoldable pub core_line : List (List ℕ) → Option Line
+core_line ws = do
+  state ← state_at ws
+  word ← first_rest state.1
+  event ← event_of word.0
+  shape ← shape_of event word.1
+  Some (Core state.0 event shape)
+
+unfoldable pub end_line : List (List ℕ) → Option Line
+end_line ws = do
+  end ← ended ws
+  Some End
+
+-- the line whose first word is w, and whose other words are ws
+abbrev pub line_after : List ℕ → List (List ℕ) → Option Line
+line_after w ws = if bytes_eq w (codes "protocol") then protocol_line ws
+  else if bytes_eq w (codes "cache") then cache_line ws
+  else if bytes_eq w (codes "request") then request_line ws
+  else if bytes_eq w (codes "reply") then reply_line ws
+  else if bytes_eq w (codes "core") then core_line ws
+  else if bytes_eq w (codes "end") then end_line ws
+  else None
+
+-- the line that the words are, where they are in a form
+unfoldable pub line_of : List (List ℕ) → Option Line
+line_of ws = do
+  w ← first_rest ws
+  line_after w.0 w.1

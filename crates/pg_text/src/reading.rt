@@ -1,0 +1,308 @@
+ghost use Rattle.std.specs.Prelude.{◌≡◌};
+ghost use Rattle.std.specs.Option.{option_map};
+ghost use Rattle.pg_perm.specs.Names.{is_name as is_name_of};
+ghost use Rattle.pg_text.specs.Forms.{are_pairs as are_pairs_of};
+ghost use Rattle.pg_text.specs.Reading as forms;
+
+use crate::line::{CoreShape, Line};
+use crate::words::Words;
+use pg_perm::{Event, MsgClass, Perm, ReqClass, Role, Word, is_name, is_state_name};
+
+fn role_of(word: &[u8]) -> Option<Role>
+    ensures { result ≡ forms.role_of word.now }
+{
+    if word == b"out".as_slice() {
+        Some(Role::Out)
+    } else if word == b"shared".as_slice() {
+        Some(Role::Shared)
+    } else if word == b"owner".as_slice() {
+        Some(Role::Owner)
+    } else {
+        None
+    }
+}
+
+fn perm_of(word: &[u8]) -> Option<Perm>
+    ensures { result ≡ forms.perm_of word.now }
+{
+    if word == b"none".as_slice() {
+        Some(Perm::None)
+    } else if word == b"read".as_slice() {
+        Some(Perm::Read)
+    } else if word == b"write".as_slice() {
+        Some(Perm::Write)
+    } else {
+        None
+    }
+}
+
+fn request_of(word: &[u8]) -> Option<ReqClass>
+    ensures { result ≡ forms.request_of word.now }
+{
+    if word == b"read".as_slice() {
+        Some(ReqClass::Read)
+    } else if word == b"write".as_slice() {
+        Some(ReqClass::Write)
+    } else if word == b"clean".as_slice() {
+        Some(ReqClass::Clean)
+    } else if word == b"dirty".as_slice() {
+        Some(ReqClass::Dirty)
+    } else {
+        None
+    }
+}
+
+fn event_of(word: &[u8]) -> Option<Event>
+    ensures { result ≡ forms.event_of word.now }
+{
+    if word == b"load".as_slice() {
+        Some(Event::Load)
+    } else if word == b"store".as_slice() {
+        Some(Event::Store)
+    } else if word == b"evict".as_slice() {
+        Some(Event::Evict)
+    } else {
+        None
+    }
+}
+
+#[tactic(auto, unfolding(crate::specs::Reading::name_at))]
+fn name_at<'a>(words: &Words<'a>) -> Option<(Word, Words<'a>)>
+    ensures { result ≡ forms.name_at words.now }
+{
+    let (word, rest) = words.first()?;
+    if is_name(word) {
+        Some((Word::new(word), rest))
+    } else {
+        None
+    }
+}
+
+#[tactic(auto, unfolding(crate::specs::Reading::state_at))]
+fn state_at<'a>(words: &Words<'a>) -> Option<(Word, Words<'a>)>
+    ensures { result ≡ forms.state_at words.now }
+{
+    let (word, rest) = words.first()?;
+    if is_state_name(word) {
+        Some((Word::new(word), rest))
+    } else {
+        None
+    }
+}
+
+fn ended(words: &Words) -> Option<()>
+    ensures { result ≡ forms.ended words.now }
+{
+    match words.first() {
+        None => Some(()),
+        Some(_) => None,
+    }
+}
+
+#[tactic(auto, unfolding(crate::specs::Reading::protocol_line))]
+fn protocol_line<'a>(words: &Words<'a>) -> Option<Line<'a>>
+    ensures { result ≡ forms.protocol_line words.now }
+{
+    let (name, rest) = name_at(words)?;
+    ended(&rest)?;
+    Some(Line::Protocol { name })
+}
+
+fn clean_of(words: &Words) -> Option<bool>
+    ensures { result ≡ forms.clean_of words.now }
+{
+    let Some((word, rest)) = words.first() else {
+        return Some(false);
+    };
+    ended(&rest)?;
+    if word == b"clean".as_slice() {
+        Some(true)
+    } else {
+        None
+    }
+}
+
+#[tactic(auto, unfolding(crate::specs::Reading::cache_line))]
+fn cache_line<'a>(words: &Words<'a>) -> Option<Line<'a>>
+    ensures { result ≡ forms.cache_line words.now }
+{
+    let (name, rest) = state_at(words)?;
+    let (word, rest) = rest.first()?;
+    let role = role_of(word)?;
+    let (word, rest) = rest.first()?;
+    let perm = perm_of(word)?;
+    let clean = clean_of(&rest)?;
+    Some(Line::Cache {
+        name,
+        role,
+        perm,
+        clean,
+    })
+}
+
+#[tactic(auto, unfolding(crate::specs::Reading::request_line))]
+fn request_line<'a>(words: &Words<'a>) -> Option<Line<'a>>
+    ensures { result ≡ forms.request_line words.now }
+{
+    let (name, rest) = name_at(words)?;
+    let (word, rest) = rest.first()?;
+    let class = request_of(word)?;
+    ended(&rest)?;
+    Some(Line::Message {
+        name,
+        class: MsgClass::Request(class),
+    })
+}
+
+#[tactic(auto, unfolding(crate::specs::Reading::reply_line))]
+fn reply_line<'a>(words: &Words<'a>) -> Option<Line<'a>>
+    ensures { result ≡ forms.reply_line words.now }
+{
+    let (name, rest) = name_at(words)?;
+    let (word, rest) = rest.first()?;
+    ended(&rest)?;
+    if word == b"data".as_slice() {
+        Some(Line::Message {
+            name,
+            class: MsgClass::Reply,
+        })
+    } else {
+        None
+    }
+}
+
+/// Whether the words are replies and final states in turn.
+fn are_pairs(words: &Words) -> bool
+    ensures { result ≡ are_pairs_of words.now }
+{
+    let mut left = words.again();
+    loop {
+        let Some((reply, rest)) = left.first() else {
+            return true;
+        };
+        let Some((fin, rest)) = rest.first() else {
+            return false;
+        };
+        if !is_name(reply) || !is_state_name(fin) {
+            return false;
+        }
+        left = rest;
+    }
+}
+
+/// What `hit` leads to, with the state behind it where one is there.
+fn hit_shape<'a>(word: &[u8], next: Option<&[u8]>) -> Option<CoreShape<'a>>
+    ensures { result ≡ forms.hit_shape word.now (option_map (λ w. w.now) next.entry) }
+{
+    if word != b"hit".as_slice() {
+        return None;
+    }
+    match next {
+        None => Some(CoreShape::Hit { next: None }),
+        Some(next) => {
+            if is_state_name(next) {
+                Some(CoreShape::Hit {
+                    next: Some(Word::new(next)),
+                })
+            } else {
+                None
+            }
+        }
+    }
+}
+
+fn ask_shape<'a>(word: &[u8], pairs: Words<'a>) -> Option<CoreShape<'a>>
+    ensures { result ≡ forms.ask_shape word.now pairs.entry }
+{
+    if is_name(word) && are_pairs(&pairs) {
+        Some(CoreShape::Ask {
+            request: Word::new(word),
+            pairs,
+        })
+    } else {
+        None
+    }
+}
+
+fn asking_shape<'a>(words: &Words<'a>) -> Option<CoreShape<'a>>
+    ensures { result ≡ forms.asking_shape words.now }
+{
+    let (word, pairs) = words.first()?;
+    match pairs.first() {
+        None => hit_shape(word, None),
+        Some((next, more)) => match more.first() {
+            None => hit_shape(word, Some(next)),
+            Some(_) => ask_shape(word, pairs),
+        },
+    }
+}
+
+#[tactic(auto, unfolding(crate::specs::Reading::leaving_shape))]
+fn leaving_shape<'a>(words: &Words<'a>) -> Option<CoreShape<'a>>
+    ensures { result ≡ forms.leaving_shape words.now }
+{
+    let (request, rest) = name_at(words)?;
+    ended(&rest)?;
+    Some(CoreShape::Leave { request })
+}
+
+fn shape_of<'a>(event: Event, words: &Words<'a>) -> Option<CoreShape<'a>>
+    ensures { result ≡ forms.shape_of event words.now }
+{
+    match event {
+        Event::Load | Event::Store => asking_shape(words),
+        Event::Evict => leaving_shape(words),
+    }
+}
+
+#[tactic(auto, unfolding(crate::specs::Reading::core_line))]
+fn core_line<'a>(words: &Words<'a>) -> Option<Line<'a>>
+    ensures { result ≡ forms.core_line words.now }
+{
+    let (state, rest) = state_at(words)?;
+    let (word, rest) = rest.first()?;
+    let event = event_of(word)?;
+    let shape = shape_of(event, &rest)?;
+    Some(Line::Core {
+        state,
+        event,
+        shape,
+    })
+}
+
+#[tactic(auto, unfolding(crate::specs::Reading::end_line))]
+fn end_line<'a>(words: &Words<'a>) -> Option<Line<'a>>
+    ensures { result ≡ forms.end_line words.now }
+{
+    ended(words)?;
+    Some(Line::End)
+}
+
+fn line_after<'a>(word: &[u8], words: &Words<'a>) -> Option<Line<'a>>
+    ensures { result ≡ forms.line_after word.now words.now }
+{
+    if word == b"protocol".as_slice() {
+        protocol_line(words)
+    } else if word == b"cache".as_slice() {
+        cache_line(words)
+    } else if word == b"request".as_slice() {
+        request_line(words)
+    } else if word == b"reply".as_slice() {
+        reply_line(words)
+    } else if word == b"core".as_slice() {
+        core_line(words)
+    } else if word == b"end".as_slice() {
+        end_line(words)
+    } else {
+        None
+    }
+}
+
+/// The line that the words are, or none where they are in none of the forms.
+#[tactic(auto, unfolding(crate::specs::Reading::line_of))]
+pub fn line_of<'a>(words: &Words<'a>) -> Option<Line<'a>>
+    ensures { result ≡ forms.line_of words.now }
+{
+    let (word, rest) = words.first()?;
+    line_after(word, &rest)
+}
