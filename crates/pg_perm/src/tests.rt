@@ -29,7 +29,9 @@ fn lists(rt: HostRuntime) -> Result<(), Fail> {
     assert_eq!(rt; list.get(1).copied(), Some(9));
     assert_eq!(rt; list.as_slice(), [7, 9].as_slice());
     let same = Sequence::from(list.into_vec());
+    assert!(rt; is_name(b"GetS"));
     let word = Word::new(b"GetS");
+    assert_eq!(rt; word.as_str(), "GetS");
     assert_eq!(rt; word.bytes(), b"GetS".as_slice());
     assert!(rt; word == word.clone()?);
     assert_eq!(rt; same.into_vec().len(), 2);

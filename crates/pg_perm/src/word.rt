@@ -1,4 +1,4 @@
-ghost use Rattle.std.specs.Prelude.{◌≡◌, ◌≤◌, length};
+ghost use Rattle.std.specs.Prelude.{◌≡◌, IsTrue};
 ghost use Rattle.std.specs.List.{list_all, list_any};
 ghost use Rattle.pg_perm.specs.Names.{is_letter as is_letter_of, is_name_byte as is_name_byte_of, is_underscore, is_name as is_name_of, is_state_name as is_state_name_of};
 
@@ -8,26 +8,29 @@ use std::marker::Model;
 /// The most bytes that a name has.
 const NAME_LIMIT: usize = 24;
 
-/// A name: up to 24 bytes, kept in place. Contracts see its bytes.
+/// A name: 1 to 24 ASCII letters, digits or `_`, of which the first is a letter. It is kept in place, and contracts see its bytes.
 #[derive(Debug, Drop, Clone, PartialEq, Eq)]
 pub struct Word {
     bytes: ArrayVec<u8, 24>,
 }
 
 impl Model for Word {
-    ghost use Rattle.std.specs.Prelude.{List, ℕ};
+    ghost use Rattle.std.specs.Prelude.{List, ℕ, IsTrue};
+    ghost use Rattle.pg_perm.specs.Names.{is_name};
 
     ghost Value = { List ℕ };
 
     ghost view = { λ w. w.bytes.items };
 
+    ghost invariant = { λ w. IsTrue (is_name w.bytes.items) };
+
     ghost inverse = { λ bytes. record { bytes = record { items = bytes } } };
 }
 
 impl Word {
-    /// The word of these bytes.
+    /// The word of these bytes, which `is_name` has found to be a name.
     pub fn new(bytes: &[u8]) -> Word
-        requires { length bytes.now ≤ 24 }
+        requires { IsTrue (is_name_of bytes.now) }
         ensures { result ≡ bytes.now }
     {
         let mut word = ArrayVec::new();
@@ -38,9 +41,19 @@ impl Word {
     }
 
     pub fn bytes(&self) -> &[u8]
-        ensures { result.now ≡ self.now }
+        ensures bytes { result.now ≡ self.now }
+        ensures name { IsTrue (is_name_of self.now) }
     {
         &self.bytes
+    }
+
+    pub fn as_str(&self) -> &str
+        ensures { result.now ≡ self.now }
+    {
+        match str::from_utf8(self.bytes()) {
+            Ok(text) => text,
+            Err(_) => unreachable!(),
+        }
     }
 }
 
