@@ -1,5 +1,5 @@
 -- What the number of a text says, and how it stands when names are appended.
-use Rattle.std.proofs.Common.{◌≡◌, ℕ, zero, suc, ◌+◌, ◌<◌, ◌↔◌, Bool, true, false, ◌||◌, List, [], ◌∷◌, ◌++◌, Option, Some, None, is_some, IsNone, length, slice_get, Contains, refl, sym, ap, subst, ◌∙◌, true≢false, if◌then◌else◌, arith, bytes_eq}
+use Rattle.std.proofs.Common.{◌≡◌, ℕ, zero, suc, ◌+◌, ◌<◌, ◌↔◌, Bool, true, false, ◌||◌, List, [], ◌∷◌, ◌++◌, Option, Some, None, is_some, IsSome, IsNone, length, slice_get, Contains, refl, sym, ap, subst, ◌∙◌, true≢false, if◌then◌else◌, arith, bytes_eq}
 use Rattle.std.specs.List.{IsDistinct, list_any}
 use Rattle.std.specs.Option.{option_map, option_or}
 use Rattle.std.proofs.lemmas.Cmp.{nat_list_eq_equiv}
@@ -45,6 +45,14 @@ IsNone-number_of ns w = by (number_of ns w) refl
     by : (o : Option ℕ) → number_of ns w ≡ o → IsNone o ↔ ¬ Contains ns w
     by None e = (λ _ has. true≢false (sym (list_any-from_Contains nat_list_eq_equiv w ns has) ∙ sym (is_some-number_of ns w) ∙ ap is_some e), λ _. refl)
     by (Some i) e = (λ h. absurd (true≢false h), λ no. absurd (no (Contains-number_of ns w i e)))
+
+-- and has one exactly where it is
+pub IsSome-number_of : (ns : List (List ℕ)) (w : List ℕ) → IsSome (number_of ns w) ↔ Contains ns w
+IsSome-number_of ns w = by (number_of ns w) refl
+  where
+    by : (o : Option ℕ) → number_of ns w ≡ o → IsSome o ↔ Contains ns w
+    by None e = (λ h. absurd (true≢false (sym h)), λ has. absurd ((IsNone-number_of ns w).0 (ap is_some e) has))
+    by (Some i) e = (λ _. Contains-number_of ns w i e, λ _. refl)
 
 -- the names that stand first give their numbers, and the others go on after them
 pub number_of-append : (ns ms : List (List ℕ)) (w : List ℕ) → number_of (ns ++ ms) w ≡ option_or (number_of ns w) (option_map (λ i. length ns + i) (number_of ms w))
@@ -98,3 +106,6 @@ number_of-slice_get (n ∷ ns) w (suc i) d h =
     let apart : bytes_eq n w ≡ false = ap (bytes_eq n) (sym (get_or_from_slice_get ns i w w h)) ∙ apart_from_distinct bytes_eq (n ∷ ns) 0 (suc i) w d (omega arith) far in
     ap (λ b. if b then Some 0 else option_map suc (number_of ns w)) (nat_list_eq_equiv.symm w n ∙ apart)
     ∙ ap (option_map suc) (number_of-slice_get ns w i (IsDistinct-tail bytes_eq n ns d) h)
+
+-- for `grind`: what a number says, and how it stands when names are appended
+pub ruleset numbers = (slice_get-number_of, number_of-within, number_of-append_there, number_of-append_new, number_of-append_other)

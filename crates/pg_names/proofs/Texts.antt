@@ -32,7 +32,7 @@ module _ {X : Type 0} (bytes : X → List ℕ) (w : List ℕ) where
 
 -- inserting a text that has no number puts it last
 pub map-insert_key : {Z : Type 0} (old new : List (String Z)) (k : String Z) (ns : List (List ℕ)) (w : List ℕ)
-    → new ≡ insert_key string_eq old k → map string_bytes old ≡ ns → string_bytes k ≡ w → None ≡ number_of ns w → map string_bytes new ≡ ns ++ w ∷ []
+    → new ≡ insert_key string_eq old k → map string_bytes old ≡ ns → string_bytes k ≡ w → number_of ns w ≡ None → map string_bytes new ≡ ns ++ w ∷ []
 map-insert_key old new k ns w keys texts text none =
     let absent : number_of (map string_bytes old) (string_bytes k) ≡ None = cc in
     ap (map string_bytes) keys
@@ -40,14 +40,14 @@ map-insert_key old new k ns w keys texts text none =
     ∙ map-append string_bytes old (k ∷ [])
     ∙ (λ j. texts j ++ text j ∷ [])
 
--- no names are names
+-- a set of no texts has distinct names, and few
 pub AreNames-nil : {Z : Type 0} (ks : List (String Z)) → length ks ≡ 0 → AreNames (map string_bytes ks)
 unfolding IsDistinct
 AreNames-nil ks none = subst (λ xs. AreNames (map string_bytes xs)) (sym (nil_from_length ks none)) (record { distinct = tt; few = omega arith })
 
--- nor do names with a new one last stop being names, where there is a number for it
+-- and so has a set with a new text last, where there was room
 pub AreNames-append_new : {Z : Type 0} (old new : List (String Z)) (ns : List (List ℕ)) (w : List ℕ)
-    → map string_bytes new ≡ ns ++ w ∷ [] → map string_bytes old ≡ ns → AreNames (map string_bytes old) → None ≡ number_of ns w → length ns < 65535 → AreNames (map string_bytes new)
+    → map string_bytes new ≡ ns ++ w ∷ [] → map string_bytes old ≡ ns → AreNames (map string_bytes old) → number_of ns w ≡ None → length ns < 65535 → AreNames (map string_bytes new)
 AreNames-append_new old new ns w appended texts names none room =
     let here : AreNames ns = subst AreNames texts names in
-    subst AreNames (sym appended) (record { distinct = IsDistinct-append_new ns w here.distinct (sym none); few = omega (arith, length-append ns (w ∷ [])) })
+    subst AreNames (sym appended) (record { distinct = IsDistinct-append_new ns w here.distinct none; few = omega (arith, length-append ns (w ∷ [])) })

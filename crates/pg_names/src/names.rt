@@ -1,8 +1,8 @@
 //! The type `Names`, and what adding a text to it answers.
-ghost use Rattle.std.specs.Prelude.{◌≡◌, ◌<◌, ◌↔◌, [], length, slice_get, Some, None, IsTrue, IsNone, IfOk, OnErr, Contains, bytes_eq};
+ghost use Rattle.std.specs.Prelude.{◌≡◌, ◌<◌, ◌↔◌, ℕ, List, [], ◌∷◌, ◌++◌, length, slice_get, Some, None, IsTrue, IsSome, IsNone, IfSome, IfOk, OnOk, OnErr, Contains, bytes_eq};
 ghost use Rattle.std.specs.List.{IsDistinct};
-ghost use Rattle.pg_names.specs.Number.{number_of};
-ghost use Rattle.pg_names.specs.Added.{Adds};
+ghost use Rattle.pg_names.specs.Number.{number_of, with_name};
+ghost use Rattle.pg_names.specs.Added.{Adds, number_in};
 
 use indexmap::IndexSet;
 use std::alloc::{AllocError, Global};
@@ -48,27 +48,47 @@ impl Names {
     }
 
     /// Adds `text`, unless it is there. Only a new text takes memory, so only then can it be refused, and then nothing has changed.
+    #[tactic(auto, using(crate::proofs::Numbers::numbers))]
     pub fn add(&mut self, text: &str) -> Result<Added, AllocError>
         requires { length self.old < 65535 }
         ensures added { IfOk result (λ added. Adds self.old text.now added self.new) }
         ensures unchanged { OnErr result (self.new ≡ self.old) }
         ensures refused_only_if_new { OnErr result (number_of self.old text.now ≡ None) }
+
+        // These follow, for callers that need not know whether the text was there.
+        ensures names { OnOk result (self.new ≡ with_name self.old text.now) }
+        ensures number { IfOk result (λ added. number_of self.new text.now ≡ Some (number_in added)) }
+        ensures within { IfOk result (λ added. number_in added < length self.new) }
+        ensures kept { (name : List ℕ) (n : ℕ) → number_of self.old name ≡ Some n → number_of self.new name ≡ Some n }
     {
         match self.find(text) {
             Some(number) => Ok(Added::There(number)),
             None => {
                 let number = self.len();
-                let name = String::from_str(*self.texts.allocator(), text)?;
-                self.texts.insert(name)?;
+                self.push(text)?;
                 Ok(Added::New(number))
             }
         }
+    }
+
+    // Puts a text that is not there last.
+    fn push(&mut self, text: &str) -> Result<(), AllocError>
+        requires new { number_of self.old text.now ≡ None }
+        requires room { length self.old < 65535 }
+        ensures last { OnOk result (self.new ≡ self.old ++ text.now ∷ []) }
+        ensures unchanged { OnErr result (self.new ≡ self.old) }
+    {
+        let name = String::from_str(*self.texts.allocator(), text)?;
+        self.texts.insert(name)?;
+        Ok(())
     }
 
     /// The number of `text`, if it is there.
     pub fn find(&self, text: &str) -> Option<u16>
         ensures number { result ≡ number_of self.now text.now }
         ensures none { IsNone result ↔ ¬ Contains self.now text.now }
+        ensures found { IsSome result ↔ Contains self.now text.now }
+        ensures within { IfSome result (λ n. n < length self.now) }
     {
         let place = self.texts.get_index_of(text)?;
         Some(place as u16)

@@ -1,7 +1,7 @@
-use Rattle.std.proofs.Common.{ap, sym, ◌∙◌, subst, IsNone, Contains, ◌↔◌}
+use Rattle.std.proofs.Common.{ap, sym, ◌∙◌, subst, IsSome, IsNone, Contains, ◌↔◌}
 use Rattle.std.specs.String.{string_bytes}
 use Rattle.pg_names.specs.Number.{number_of}
-use Rattle.pg_names.proofs.Numbers.{IsNone-number_of}
+use Rattle.pg_names.proofs.Numbers.{IsNone-number_of, IsSome-number_of}
 use Rattle.pg_names.proofs.Texts.{position-number_of}
 use Rattle.pg_names.proofs.names.Names.find.Goals as goal
 
@@ -24,3 +24,11 @@ returns-clause-number c =
 pub returns-clause-none : goal.returns-clause-none
 returns-clause-none c =
     subst (λ o. IsNone o ↔ ¬ Contains c.args.self.now c.args.text.now) (sym (returns-clause-number c)) (IsNone-number_of c.args.self.now c.args.text.now)
+
+pub returns-in_err-place-clause-found : goal.returns-in_err-place-clause-found
+returns-in_err-place-clause-found c =
+    subst (λ o. IsSome o ↔ Contains c.args.self.now c.args.text.now) (sym (returns-in_err-place-clause-number c)) (IsSome-number_of c.args.self.now c.args.text.now)
+
+pub returns-clause-found : goal.returns-clause-found
+returns-clause-found c =
+    subst (λ o. IsSome o ↔ Contains c.args.self.now c.args.text.now) (sym (returns-clause-number c)) (IsSome-number_of c.args.self.now c.args.text.now)
