@@ -1,4 +1,4 @@
-use Rattle.std.proofs.Common.{◌≡◌, ◌∙◌, ℕ, List, ◌++◌, Option, None, Some, ap, sym, append_assoc}
+use Rattle.std.proofs.Common.{◌∙◌, ℕ, List, ◌++◌, Option, None, Some, ap, sym, append_assoc}
 use Rattle.pg_io.specs.Source.{Gave}
 
 -- what two reads gave, one after the other

@@ -1,2 +1,3 @@
 pub mod Gave
 pub mod Holds
+mod Given

@@ -14,3 +14,8 @@ abbrev pub Writes : Put → List ℕ → Option (List ℕ) → Option (List ℕ)
 Writes (Bytes count) bytes old new before after =
     (0 < count) × (count ≤ length bytes) × Holds old new (take count bytes) × (after ≡ before)
 Writes Failed bytes old new before after = (new ≡ old) × (before < after)
+
+-- how many bytes a write took
+abbrev pub taken_count : Put → ℕ
+taken_count (Bytes count) = count
+taken_count Failed = 0

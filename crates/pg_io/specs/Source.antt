@@ -20,3 +20,9 @@ Reads (Bytes count) buf old new before after =
     (0 < count) × (count ≤ length buf) × Gave old new (take count buf) × (after ≡ before)
 Reads End buf old new before after = IsAtEnd old × Gave old new [] × (after ≡ before)
 Reads Failed buf old new before after = (new ≡ old) × (before < after)
+
+-- how many bytes a read gave
+abbrev pub given_count : Took → ℕ
+given_count (Bytes count) = count
+given_count End = 0
+given_count Failed = 0

@@ -1,7 +1,5 @@
-use Rattle.std.proofs.Common.{◌≡◌, ◌++◌, take, Result, Err, Vec, ℕ, Global, rules, arith, length-append}
+use Rattle.std.proofs.Common.{◌≡◌, ◌++◌, take, Err, ℕ, rules, arith, length-append}
 use Rattle.std.proofs.lemmas.List.{length-take-le}
-use Rattle.pg_io.specs.ReadAll.{TakesUpTo}
-use Rattle.pg_io.specs.declared.read.ReadAllError.{ReadAllError}
 use Rattle.pg_io.specs.declared.read.ReadAllError.TheVariants.{Memory}
 use Rattle.pg_io.proofs.Gave.{Gave-append}
 use Rattle.pg_io.proofs.read.read_all.Goals as goal

@@ -10,4 +10,5 @@ loop-written-preserved g c =
     record {
       held = rw take-add (Holds-append _ _ _ _ _ c.loop-written.invariant.held put.2);
       faults = cc put.3;
-      within = omega (arith, put.1, length-drop c.loop-written.written c.args.bytes.now) }
+      within = omega (arith, put.1, length-drop c.loop-written.written c.args.bytes.now);
+    }
