@@ -9,11 +9,22 @@ Holds None new bytes = Unit {0}
 Holds (Some old) None bytes = ⊥
 Holds (Some old) (Some new) bytes = new ≡ old ++ bytes
 
--- what a write did, by its answer: what was to be written, what was held and is held, and the faults before and after
+-- this many bytes were taken, from the front
+pub record TakesBytes (count : ℕ) (bytes : List ℕ) (old new : Option (List ℕ)) (before after : ℕ) : Type 0 where
+  pub some : 0 < count
+  pub within : count ≤ length bytes
+  pub held : Holds old new (take count bytes)
+  pub faults : after ≡ before
+
+-- the call failed, and what is held is what was held
+pub record FailsToTake (old new : Option (List ℕ)) (before after : ℕ) : Type 0 where
+  pub same : new ≡ old
+  pub faults : before < after
+
+-- what a write does, by its answer: to what is held, and to the count of faults
 abbrev pub Writes : Put → List ℕ → Option (List ℕ) → Option (List ℕ) → ℕ → ℕ → Type 0
-Writes (Bytes count) bytes old new before after =
-    (0 < count) × (count ≤ length bytes) × Holds old new (take count bytes) × (after ≡ before)
-Writes Failed bytes old new before after = (new ≡ old) × (before < after)
+Writes (Bytes count) bytes old new before after = TakesBytes count bytes old new before after
+Writes Failed bytes old new before after = FailsToTake old new before after
 
 -- how many bytes a write took
 abbrev pub taken_count : Put → ℕ

@@ -14,12 +14,29 @@ abbrev pub IsAtEnd : Option (List ℕ) → Type 0
 IsAtEnd None = Unit {0}
 IsAtEnd (Some left) = left ≡ []
 
--- what a read did, by its answer: what the buffer holds then, what was left and is left, and the faults before and after
+-- this many bytes were given, to the front of the buffer
+pub record GivesBytes (count : ℕ) (buffer : List ℕ) (old new : Option (List ℕ)) (before after : ℕ) : Type 0 where
+  pub some : 0 < count
+  pub fits : count ≤ length buffer
+  pub given : Gave old new (take count buffer)
+  pub faults : after ≡ before
+
+-- there was nothing to give
+pub record GivesEnd (old new : Option (List ℕ)) (before after : ℕ) : Type 0 where
+  pub at_end : IsAtEnd old
+  pub given : Gave old new []
+  pub faults : after ≡ before
+
+-- the call failed, and what is left is what was left
+pub record FailsToGive (old new : Option (List ℕ)) (before after : ℕ) : Type 0 where
+  pub same : new ≡ old
+  pub faults : before < after
+
+-- what a read does, by its answer: to the buffer, to what is left, and to the count of faults
 abbrev pub Reads : Took → List ℕ → Option (List ℕ) → Option (List ℕ) → ℕ → ℕ → Type 0
-Reads (Bytes count) buf old new before after =
-    (0 < count) × (count ≤ length buf) × Gave old new (take count buf) × (after ≡ before)
-Reads End buf old new before after = IsAtEnd old × Gave old new [] × (after ≡ before)
-Reads Failed buf old new before after = (new ≡ old) × (before < after)
+Reads (Bytes count) buffer old new before after = GivesBytes count buffer old new before after
+Reads End buffer old new before after = GivesEnd old new before after
+Reads Failed buffer old new before after = FailsToGive old new before after
 
 -- how many bytes a read gave
 abbrev pub given_count : Took → ℕ

@@ -20,3 +20,6 @@ pub use sink::{Put, Sink};
 pub use source::{Source, Took};
 pub use sure::{SureSink, SureSource};
 pub use write::{WriteError, write_all};
+
+#[cfg(test)]
+mod tests;

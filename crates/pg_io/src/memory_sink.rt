@@ -1,4 +1,4 @@
-ghost use Rattle.std.specs.Prelude.{◌≡◌, ◌≢◌, ◌-◌, ◌^◌, ◌<◌, ◌≤◌, ◌↔◌, ◌⊎◌, Some, [], Contains, IfOk, length, min};
+ghost use Rattle.std.specs.Prelude.{◌≡◌, ◌≢◌, ◌+◌, ◌-◌, ◌^◌, ◌<◌, ◌≤◌, ◌↔◌, ◌⊎◌, Some, [], Contains, IfOk, length, min};
 ghost use Rattle.pg_io.specs.Sink.{Writes, taken_count};
 ghost use Rattle.pg_io.specs.Memory.{next_call};
 
@@ -65,6 +65,7 @@ impl Sink for MemorySink {
         ensures fails { (result ≡ Put.Failed) ↔ (Contains self.old.fails (next_call self.old.calls) ⊎ (self.old.room ≤ length self.old.held)) }
         ensures count { result ≢ Put.Failed → taken_count result ≡ min self.old.piece (min (length bytes.now) (self.old.room - length self.old.held)) }
         ensures calls { self.new.calls ≡ next_call self.old.calls }
+        ensures once { self.new.faults ≤ self.old.faults + 1 }
         ensures settings { (self.new.room ≡ self.old.room) × (self.new.piece ≡ self.old.piece) × (self.new.fails ≡ self.old.fails) }
     {
         self.calls = self.calls.saturating_add(1);

@@ -1,4 +1,4 @@
-ghost use Rattle.std.specs.Prelude.{◌≡◌, ◌≢◌, ◌-◌, ◌^◌, ◌<◌, ◌≤◌, ◌↔◌, Some, Contains, length};
+ghost use Rattle.std.specs.Prelude.{◌≡◌, ◌≢◌, ◌+◌, ◌-◌, ◌^◌, ◌<◌, ◌≤◌, ◌↔◌, Some, Contains, length};
 ghost use Rattle.pg_io.specs.Source.{Reads, given_count};
 ghost use Rattle.pg_io.specs.Pieces.{next_count};
 ghost use Rattle.pg_io.specs.Memory.{next_call};
@@ -52,6 +52,7 @@ impl Source for MemorySource {
         ensures fails { (result ≡ Took.Failed) ↔ Contains self.old.fails (next_call self.old.calls) }
         ensures count { result ≢ Took.Failed → given_count result ≡ next_count (length buf.new) self.old.piece self.old.left }
         ensures calls { self.new.calls ≡ next_call self.old.calls }
+        ensures once { self.new.faults ≤ self.old.faults + 1 }
         ensures settings { (self.new.piece ≡ self.old.piece) × (self.new.fails ≡ self.old.fails) }
     {
         self.calls = self.calls.saturating_add(1);

@@ -7,7 +7,7 @@ use Rattle.pg_io.proofs.read.read_all.Goals as goal
 pub returns-then-room-eq0-clause-taken : goal.returns-then-room-eq0-clause-taken
 returns-then-room-eq0-clause-taken g c = (
   c.loop-count.all.items ++ take c.in-Bytes.count c.read.new.buf,
-  Gave-append _ _ _ _ _ c.loop-count.invariant.given c.in-Bytes.ensures.2,
+  Gave-append _ _ _ _ _ c.loop-count.invariant.given c.in-Bytes.ensures.given,
   omega (arith, length-append {A = ℕ}, length-take-le {A = ℕ}, c.in-Bytes.ensures),
 )
 
@@ -17,6 +17,6 @@ returns-in_err-extend_from_slice-in-Bytes-clause-taken g c =
     let refused : c.from_residual.result ≡ Err Memory = search rules in
     rw refused (
       c.loop-count.all.items ++ take c.in-Bytes.count c.read.new.buf,
-      Gave-append _ _ _ _ _ c.loop-count.invariant.given c.in-Bytes.ensures.2,
+      Gave-append _ _ _ _ _ c.loop-count.invariant.given c.in-Bytes.ensures.given,
       omega (arith, length-append {A = ℕ}, length-take-le {A = ℕ}, c.in-Bytes.ensures),
     )

@@ -8,7 +8,7 @@ pub loop-written-preserved : goal.loop-written-preserved
 loop-written-preserved g c =
     let put = rw take_rest at c.in-Bytes.ensures in
     record {
-      held = rw take-add (Holds-append _ _ _ _ _ c.loop-written.invariant.held put.2);
-      faults = cc put.3;
-      within = omega (arith, put.1, length-drop c.loop-written.written c.args.bytes.now);
+      held = rw take-add (Holds-append _ _ _ _ _ c.loop-written.invariant.held put.held);
+      faults = cc put.faults;
+      within = omega (arith, put.within, length-drop c.loop-written.written c.args.bytes.now);
     }
