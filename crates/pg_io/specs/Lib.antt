@@ -4,3 +4,4 @@ pub mod ReadAll
 pub mod WriteAll
 pub mod Pieces
 pub mod Memory
+pub mod Real
