@@ -1,0 +1,3 @@
+pub mod Gave
+pub mod Holds
+mod Given
