@@ -1,9 +1,10 @@
 use Rattle.std.proofs.Common.{◌≡◌, ℕ, Bool, true, false, List, [], ◌∷◌, refl, ap, sym, ◌∙◌, Option, Some, None}
 use Rattle.std.specs.Prelude.{◌&&◌}
 use Rattle.std.proofs.lemmas.Option.{same_Some}
+use Rattle.pg_perm.proofs.Tests.{both}
 use Rattle.pg_perm.specs.Names.{is_name, is_state_name}
 use Rattle.pg_text.specs.Lines.{first_rest}
-use Rattle.pg_text.specs.Forms.{are_pairs}
+use Rattle.pg_text.specs.Pairs.{are_pairs}
 
 -- a list with a first element is that element and the rest
 pub first_rest_is : {A : Type 0} (xs : List A) (x : A) (rest : List A) → Some (x, rest) ≡ first_rest xs → xs ≡ x ∷ rest
@@ -16,3 +17,10 @@ pub pairs_behind : (left rest behind : List (List ℕ)) (reply fin : List ℕ) �
 pairs_behind left rest behind reply fin h g named state =
     ap are_pairs (first_rest_is left reply rest h) ∙ ap (λ ws. are_pairs (reply ∷ ws)) (first_rest_is rest fin behind g)
     ∙ ap (λ b. (b && is_state_name fin) && are_pairs behind) named ∙ ap (λ b. b && are_pairs behind) state
+
+-- behind a reply and a final state replies and final states go on
+pub pairs_go_on : (left rest behind : List (List ℕ)) (reply fin : List ℕ) → Some (reply, rest) ≡ first_rest left → Some (fin, behind) ≡ first_rest rest
+    → are_pairs left ≡ true → are_pairs behind ≡ true
+pairs_go_on left rest behind reply fin h g all =
+    let whole : left ≡ reply ∷ fin ∷ behind = first_rest_is left reply rest h ∙ ap (λ ws. reply ∷ ws) (first_rest_is rest fin behind g) in
+    (both (is_name reply && is_state_name fin) (are_pairs behind) (sym (ap are_pairs whole) ∙ all)).1

@@ -10,6 +10,7 @@ use Rattle.pg_perm.specs.declared.kinds.Event.{Event}
 use Rattle.pg_perm.specs.declared.kinds.Event.TheVariants.{Load, Store, Evict}
 use Rattle.pg_perm.specs.declared.draft.MsgClass.{MsgClass}
 use Rattle.pg_perm.specs.declared.draft.MsgClass.TheVariants.{Request, Forward, Reply}
+use Rattle.pg_text.specs.Pairs.{are_pairs}
 use Rattle.pg_text.specs.declared.line.Line.{Line}
 use Rattle.pg_text.specs.declared.line.Line.TheVariants.{Protocol, Cache, Message, Core, End}
 use Rattle.pg_text.specs.declared.line.CoreShape.{CoreShape}
@@ -53,12 +54,6 @@ spelling (Message name (Forward class)) = []
 spelling (Message name Reply) = codes "reply" ∷ name ∷ codes "data" ∷ []
 spelling (Core state event shape) = codes "core" ∷ state ∷ event_word event ∷ shape_words shape
 spelling End = codes "end" ∷ []
-
--- replies and final states in turn
-abbrev pub are_pairs : List (List ℕ) → Bool
-are_pairs [] = true
-are_pairs (reply ∷ []) = false
-are_pairs (reply ∷ fin ∷ more) = is_name reply && is_state_name fin && are_pairs more
 
 -- a load or a store hits or asks, and an evict leaves
 abbrev pub IsShapeOf : Event → CoreShape → Type 0

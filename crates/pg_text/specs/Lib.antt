@@ -1,3 +1,11 @@
 pub mod Lines
+pub mod Pairs
 pub mod Forms
 pub mod Reading
+pub mod Kinds
+pub mod Names
+pub mod Tables
+pub mod Numbering
+pub mod FormFaults
+pub mod Texts
+pub mod Answers

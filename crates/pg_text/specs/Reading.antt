@@ -16,7 +16,7 @@ use Rattle.pg_text.specs.declared.line.Line.TheVariants.{Protocol, Cache, Messag
 use Rattle.pg_text.specs.declared.line.CoreShape.{CoreShape}
 use Rattle.pg_text.specs.declared.line.CoreShape.TheVariants.{Hit, Ask, Leave}
 use Rattle.pg_text.specs.Lines.{first_rest}
-use Rattle.pg_text.specs.Forms.{are_pairs}
+use Rattle.pg_text.specs.Pairs.{are_pairs}
 
 -- what the value of an option leads to
 infixl 10 ◌>>=◌

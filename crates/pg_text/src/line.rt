@@ -1,5 +1,7 @@
+ghost use Rattle.std.specs.Prelude.{◌≡◌};
+ghost use Rattle.pg_text.specs.Kinds.{kind_of, rank_of};
 
-use crate::words::Words;
+use crate::pairs::NamePairs;
 use pg_perm::{Event, MsgClass, Perm, Role, Word};
 
 /// A line in one of the forms of a text. Its names are still words, which may be declared nowhere.
@@ -32,18 +34,49 @@ pub enum CoreShape<'a> {
     /// `hit`, and perhaps the state that the line goes to.
     Hit { next: Option<Word> },
     /// A request, and then replies and final states in turn.
-    Ask { request: Word, pairs: Words<'a> },
+    Ask { request: Word, pairs: NamePairs<'a> },
     /// The request of an evict.
     Leave { request: Word },
 }
 
 /// The kinds of lines, in the order in which they stand in a text.
-#[derive(Clone, Copy, Debug, PartialEq, Eq, PartialOrd, Ord)]
+#[derive(Clone, Copy, Debug, PartialEq, Eq)]
 pub enum Kind {
     Protocol,
     Cache,
+    Dir,
     Request,
+    Forward,
     Reply,
     Core,
+    Take,
+    Row,
     End,
+}
+
+impl Kind {
+    /// How many kinds stand before this one.
+    pub fn rank(self) -> u8
+        ensures { result ≡ rank_of self }
+    {
+        self as u8
+    }
+}
+
+impl Line<'_> {
+    pub fn kind(&self) -> Kind
+        ensures { result ≡ kind_of self.now }
+    {
+        match self {
+            Line::Protocol { .. } => Kind::Protocol,
+            Line::Cache { .. } => Kind::Cache,
+            Line::Message { class, .. } => match class {
+                MsgClass::Request(_) => Kind::Request,
+                MsgClass::Forward(_) => Kind::Forward,
+                MsgClass::Reply => Kind::Reply,
+            },
+            Line::Core { .. } => Kind::Core,
+            Line::End => Kind::End,
+        }
+    }
 }

@@ -1,10 +1,11 @@
 ghost use Rattle.std.specs.Prelude.{◌≡◌};
 ghost use Rattle.std.specs.Option.{option_map};
 ghost use Rattle.pg_perm.specs.Names.{is_name as is_name_of};
-ghost use Rattle.pg_text.specs.Forms.{are_pairs as are_pairs_of};
+ghost use Rattle.pg_text.specs.Pairs.{are_pairs as are_pairs_of};
 ghost use Rattle.pg_text.specs.Reading as forms;
 
 use crate::line::{CoreShape, Line};
+use crate::pairs::NamePairs;
 use crate::words::Words;
 use pg_perm::{Event, MsgClass, Perm, ReqClass, Role, Word, is_name, is_state_name};
 
@@ -217,7 +218,7 @@ fn ask_shape<'a>(word: &[u8], pairs: Words<'a>) -> Option<CoreShape<'a>>
     if is_name(word) && are_pairs(&pairs) {
         Some(CoreShape::Ask {
             request: Word::new(word),
-            pairs,
+            pairs: NamePairs::new(pairs),
         })
     } else {
         None

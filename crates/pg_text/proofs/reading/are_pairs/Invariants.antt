@@ -1,5 +1,5 @@
 use Rattle.std.proofs.Common.{◌≡◌, length}
-use Rattle.pg_text.specs.Forms.{are_pairs}
+use Rattle.pg_text.specs.Pairs.{are_pairs}
 use Rattle.pg_text.proofs.reading.are_pairs.Given as goal
 
 -- what is left answers for all

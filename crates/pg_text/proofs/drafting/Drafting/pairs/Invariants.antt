@@ -1,0 +1,11 @@
+use Rattle.std.proofs.Common.{◌≡◌, length}
+use Rattle.pg_text.specs.Numbering.{pairs_of}
+use Rattle.pg_text.proofs.Numbers.{with_front}
+use Rattle.pg_text.proofs.drafting.Drafting.pairs.Given as goal
+
+-- the pairs so far, and those of what is left, are those of all
+abbrev pub invariant-loop-reply : goal.invariant-loop-reply
+invariant-loop-reply l = with_front l.pairs (pairs_of l.self l.left) ≡ pairs_of l.self l.names
+
+abbrev pub decreases-loop-reply : goal.decreases-loop-reply
+decreases-loop-reply l = length l.left

@@ -1,0 +1,18 @@
+-- What a function answers, against what is to be answered: want of memory may come in its place.
+use Rattle.std.specs.Prelude.{◌≡◌, Result, Ok, Err}
+use Rattle.pg_perm.specs.declared.fault.Fault.{Fault}
+use Rattle.pg_perm.specs.declared.fault.Rule.{Rule}
+use Rattle.pg_text.specs.declared.error.LineError.{LineError}
+use Rattle.pg_text.specs.declared.error.LineError.TheVariants as line
+use Rattle.pg_text.specs.declared.error.TextError.{TextError}
+use Rattle.pg_text.specs.declared.error.TextError.TheVariants as text
+
+abbrev pub Judges : {A : Type 0} → Result A LineError → Result A Rule → Type 0
+Judges (Ok x) wanted = wanted ≡ Ok x
+Judges (Err (line.Breaks R)) wanted = wanted ≡ Err R
+Judges (Err line.Memory) wanted = Unit {0}
+
+abbrev pub Reads : {A : Type 0} → Result A TextError → Result A Fault → Type 0
+Reads (Ok x) wanted = wanted ≡ Ok x
+Reads (Err (text.Form f)) wanted = wanted ≡ Err f
+Reads (Err text.Memory) wanted = Unit {0}

@@ -1,0 +1,274 @@
+ghost use Rattle.std.specs.Prelude.{◌≡◌, ◌+◌, IfOk, length, nat_le, bytes_eq};
+ghost use Rattle.std.specs.List.{list_any};
+ghost use Rattle.pg_text.specs.Answers.{Judges};
+ghost use Rattle.pg_text.specs.Names.{taken_names};
+ghost use Rattle.pg_text.specs.Texts.{declared};
+ghost use Rattle.pg_text.specs.Numbering as draft;
+
+use crate::pairs::NamePairs;
+use pg_names::Names;
+use crate::error::LineError;
+use crate::line::{CoreShape, Line};
+use pg_perm::{CacheLine, CoreForm, CoreLine, Draft, Event, MsgClass, MsgLine, Pair, Pairs, ReplyName, Rule, Word};
+use std::alloc::{AllocError, Global};
+use std::marker::Model;
+
+/// The most lines that declare a cache state.
+const CACHE_LIMIT: usize = 16;
+
+/// The most lines that declare a message.
+const MESSAGE_LIMIT: usize = 32;
+
+/// The most core, take and row lines together.
+const ROW_LIMIT: u64 = 512;
+
+/// Whether no message may have this name.
+fn is_taken_name(name: &[u8]) -> bool
+    ensures { result ≡ list_any (bytes_eq name.now) taken_names }
+{
+    name == b"InvAck".as_slice()
+        || name == b"PutAck".as_slice()
+        || name == b"AckCount".as_slice()
+        || name == b"WbData".as_slice()
+        || name == b"hit".as_slice()
+        || name == b"count".as_slice()
+        || name == b"evict".as_slice()
+}
+
+/// The draft of the lines so far, with its names in tables to look them up. Contracts see the draft.
+#[derive(Drop)]
+pub struct Drafting {
+    draft: Draft,
+    caches: Names,
+    messages: Names,
+}
+
+impl Model for Drafting {
+    ghost use Rattle.pg_perm.specs.declared.draft.Draft.{Draft};
+    ghost use Rattle.pg_text.specs.Tables.{AreTables};
+
+    ghost Value = { Draft };
+
+    ghost view = { λ d. d.draft };
+
+    ghost invariant = { λ d. AreTables d.draft d.caches d.messages };
+}
+
+impl Drafting {
+    /// The number of a cache state.
+    fn cache_number(&self, name: &Word) -> Option<u8>
+        ensures { result ≡ draft.cache_number self.now name.now }
+    {
+        let number = self.caches.find(name.as_str())?;
+        Some(number as u8)
+    }
+
+    /// The number of a request.
+    #[tactic(auto, unfolding(crate::specs::Numbering::message_number))]
+    fn request_number(&self, name: &Word) -> Option<u8>
+        ensures { result ≡ draft.message_number draft.is_request self.now name.now }
+    {
+        let number = self.messages.find(name.as_str())?;
+        let message = self.draft.messages.get(usize::from(number))?;
+        match message.class {
+            MsgClass::Request(_) => Some(number as u8),
+            _ => None,
+        }
+    }
+
+    /// The number of a reply.
+    #[tactic(auto, unfolding(crate::specs::Numbering::message_number))]
+    fn reply_number(&self, name: &Word) -> Option<u8>
+        ensures { result ≡ draft.message_number draft.is_reply self.now name.now }
+    {
+        let number = self.messages.find(name.as_str())?;
+        let message = self.draft.messages.get(usize::from(number))?;
+        match message.class {
+            MsgClass::Reply => Some(number as u8),
+            _ => None,
+        }
+    }
+
+    fn reply_name(&self, name: &Word) -> Option<ReplyName>
+        ensures { result ≡ draft.reply_name self.now name.now }
+    {
+        if name.bytes() == b"AckCount".as_slice() {
+            return Some(ReplyName::AckCount);
+        }
+        let number = self.reply_number(name)?;
+        Some(ReplyName::Reply(number))
+    }
+
+    #[tactic(auto, unfolding(crate::specs::Numbering::pair_of))]
+    fn pair(&self, reply: &Word, fin: &Word) -> Option<Pair>
+        ensures { result ≡ draft.pair_of self.now reply.now fin.now }
+    {
+        let reply = self.reply_name(reply)?;
+        let fin = self.cache_number(fin)?;
+        Some(Pair { reply, fin })
+    }
+
+    /// The replies and final states in numbers, or none where one isn't declared.
+    fn pairs(&self, alloc: Global, names: &NamePairs) -> Result<Option<Pairs>, AllocError>
+        ensures { IfOk result (λ pairs. pairs ≡ draft.pairs_of self.now names.now) }
+    {
+        let mut pairs = Pairs::new(alloc);
+        let mut left = names.again();
+        while let Some((reply, fin, rest)) = left.first() {
+            let Some(pair) = self.pair(&reply, &fin) else {
+                return Ok(None);
+            };
+            pairs.push(pair)?;
+            left = rest;
+        }
+        Ok(Some(pairs))
+    }
+
+    /// What stands behind the event of a core line in numbers, or none where a name isn't declared.
+    #[tactic(auto, unfolding(crate::specs::Numbering::core_form))]
+    fn core_form(&self, alloc: Global, shape: &CoreShape) -> Result<Option<CoreForm>, AllocError>
+        ensures { IfOk result (λ form. form ≡ draft.core_form self.now shape.now) }
+    {
+        match shape {
+            CoreShape::Hit { next: None } => Ok(Some(CoreForm::Hit(None))),
+            CoreShape::Hit { next: Some(name) } => {
+                let Some(next) = self.cache_number(name) else {
+                    return Ok(None);
+                };
+                Ok(Some(CoreForm::Hit(Some(next))))
+            }
+            CoreShape::Ask { request, pairs } => {
+                let Some(request) = self.request_number(request) else {
+                    return Ok(None);
+                };
+                let Some(pairs) = self.pairs(alloc, pairs)? else {
+                    return Ok(None);
+                };
+                Ok(Some(CoreForm::Ask { request, pairs }))
+            }
+            CoreShape::Leave { request } => {
+                let Some(request) = self.request_number(request) else {
+                    return Ok(None);
+                };
+                Ok(Some(CoreForm::Leave { request }))
+            }
+        }
+    }
+
+    fn with_protocol(self, number: u32, name: Word, is_long: bool) -> Result<Drafting, LineError>
+        ensures { Judges result (declared self number (Line.Protocol name) is_long) }
+    {
+        if is_long {
+            return Err(LineError::Breaks(Rule::F5));
+        }
+        let Drafting {
+            mut draft,
+            caches,
+            messages,
+        } = self;
+        draft.line = number;
+        draft.name = name;
+        Ok(Drafting {
+            draft,
+            caches,
+            messages,
+        })
+    }
+
+    fn with_cache(self, cache: CacheLine, is_long: bool) -> Result<Drafting, LineError>
+        ensures { Judges result (declared self cache.line (Line.Cache cache.name cache.role cache.perm cache.clean) is_long) }
+    {
+        if self.caches.find(cache.name.as_str()).is_some() {
+            return Err(LineError::Breaks(Rule::F3));
+        }
+        if is_long || self.draft.caches.len() >= CACHE_LIMIT {
+            return Err(LineError::Breaks(Rule::F5));
+        }
+        let Drafting {
+            mut draft,
+            mut caches,
+            messages,
+        } = self;
+        caches.add(cache.name.as_str())?;
+        draft.caches.push(cache)?;
+        Ok(Drafting {
+            draft,
+            caches,
+            messages,
+        })
+    }
+
+    fn with_message(self, message: MsgLine, is_long: bool) -> Result<Drafting, LineError>
+        ensures { Judges result (declared self message.line (Line.Message message.name message.class) is_long) }
+    {
+        if is_taken_name(message.name.bytes())
+            || self.messages.find(message.name.as_str()).is_some()
+        {
+            return Err(LineError::Breaks(Rule::F3));
+        }
+        if is_long || self.draft.messages.len() >= MESSAGE_LIMIT {
+            return Err(LineError::Breaks(Rule::F5));
+        }
+        let Drafting {
+            mut draft,
+            caches,
+            mut messages,
+        } = self;
+        messages.add(message.name.as_str())?;
+        draft.messages.push(message)?;
+        Ok(Drafting {
+            draft,
+            caches,
+            messages,
+        })
+    }
+
+    #[tactic(auto, unfolding(crate::specs::Numbering::with_core))]
+    fn with_core(
+        self,
+        alloc: Global,
+        number: u32,
+        name: Word,
+        event: Event,
+        shape: CoreShape,
+        is_long: bool,
+    ) -> Result<Drafting, LineError>
+        ensures { Judges result (declared self number (Line.Core name event shape.entry) is_long) }
+    {
+        let Some(state) = self.cache_number(&name) else {
+            return Err(LineError::Breaks(Rule::F4));
+        };
+        let Some(form) = self.core_form(alloc, &shape)? else {
+            return Err(LineError::Breaks(Rule::F4));
+        };
+        if is_long || self.has_all_rows() {
+            return Err(LineError::Breaks(Rule::F5));
+        }
+        let Drafting {
+            mut draft,
+            caches,
+            messages,
+        } = self;
+        draft.cores.push(CoreLine {
+            line: number,
+            state,
+            event,
+            form,
+        })?;
+        Ok(Drafting {
+            draft,
+            caches,
+            messages,
+        })
+    }
+
+    /// Whether there are as many core, take and row lines as there may be.
+    fn has_all_rows(&self) -> bool
+        ensures { result ≡ nat_le 512 (length self.now.cores + length self.now.takes + length self.now.rows) }
+    {
+        let cores = self.draft.cores.len() as u64;
+        let takes = self.draft.takes.len() as u64;
+        let rows = self.draft.rows.len() as u64;
+        cores >= ROW_LIMIT || takes >= ROW_LIMIT || rows >= ROW_LIMIT || cores + takes + rows >= ROW_LIMIT
+    }
+}

@@ -1,0 +1,54 @@
+ghost use Rattle.std.specs.Prelude.{◌≡◌, [], IsTrue, IfNone};
+ghost use Rattle.pg_text.specs.Pairs.{are_pairs};
+ghost use Rattle.pg_text.specs.Pairs.{first_pair};
+
+use crate::words::Words;
+use pg_perm::Word;
+use std::marker::Model;
+
+/// The replies and final states of a core line that are still to be read, in turn. Contracts see the list of their words.
+#[derive(Debug, Drop)]
+pub struct NamePairs<'a> {
+    words: Words<'a>,
+}
+
+impl<'a> Model for NamePairs<'a> {
+    ghost use Rattle.std.specs.Prelude.{List, ℕ, IsTrue};
+    ghost use Rattle.pg_text.specs.Pairs.{are_pairs};
+
+    ghost Value = { List (List ℕ) };
+
+    ghost view = { λ p. p.words };
+
+    ghost invariant = { λ p. IsTrue (are_pairs p.words) };
+}
+
+impl<'a> NamePairs<'a> {
+    pub fn new(words: Words<'a>) -> NamePairs<'a>
+        requires { IsTrue (are_pairs words) }
+        ensures { result ≡ words.entry }
+    {
+        NamePairs { words }
+    }
+
+    /// The same pairs, to be read a second time.
+    pub fn again(&self) -> NamePairs<'a>
+        ensures { result ≡ self.now }
+    {
+        NamePairs {
+            words: self.words.again(),
+        }
+    }
+
+    /// The next reply, its final state, and the pairs after them.
+    pub fn first(&self) -> Option<(Word, Word, NamePairs<'a>)>
+        ensures first { result ≡ first_pair self.now }
+        ensures none { IfNone result (self.now ≡ []) }
+    {
+        let (reply, rest) = self.words.first()?;
+        let Some((fin, rest)) = rest.first() else {
+            unreachable!()
+        };
+        Some((Word::new(reply), Word::new(fin), NamePairs { words: rest }))
+    }
+}
