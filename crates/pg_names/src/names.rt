@@ -112,7 +112,7 @@ impl Names {
 
     /// Whether there are no names.
     pub fn is_empty(&self) -> bool
-        ensures { IsTrue result ↔ (self.now ≡ []) }
+        ensures { IsTrue result ↔ (length self.now ≡ 0) }
     {
         self.texts.is_empty()
     }
