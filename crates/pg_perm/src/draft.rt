@@ -4,12 +4,19 @@ use crate::word::Word;
 
 /// Numbers of cache states.
 pub type States = Sequence<u8>;
+
 pub type Pairs = Sequence<Pair>;
+
 pub type Caches = Sequence<CacheLine>;
+
 pub type Dirs = Sequence<DirLine>;
+
 pub type Messages = Sequence<MsgLine>;
+
 pub type Cores = Sequence<CoreLine>;
+
 pub type Takes = Sequence<TakeLine>;
+
 pub type Rows = Sequence<RowLine>;
 
 /// A protocol as its text states it, line by line.

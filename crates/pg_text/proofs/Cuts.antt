@@ -1,19 +1,19 @@
-use Rattle.std.proofs.Common.{◌≡◌, ℕ, ◌+◌, ◌≤◌, ◌<◌, Bool, true, false, List, [], ◌∷◌, length, take, drop, refl, ap, sym, ◌∙◌, arith, cond, Option, Some, None}
-use Rattle.std.specs.Prelude.{position, nat_lt, ◌==◌, not}
+use Rattle.std.proofs.Common.{◌≡◌, ℕ, ◌+◌, ◌≤◌, Bool, true, false, List, [], ◌∷◌, length, take, drop, refl, ap, sym, ◌∙◌, arith, cond, Option, Some, None}
+use Rattle.std.specs.Prelude.{nat_lt, ◌==◌, not}
 use Rattle.std.specs.List.{slice_split, onto_first, position_or_len}
 use Rattle.std.specs.Borrow.{Bor}
 use Rattle.std.specs.Option.{option_map}
 use Rattle.std.proofs.lemmas.List.Splits.{slice_split_first}
 use Rattle.std.proofs.lemmas.Bool.{ltb-true, ltb-false}
-use Rattle.pg_text.specs.Lines.{cut_at, parts_of_cut, words_left, words_of, first_rest, first_line, line_of_cut, lines_of}
+use Rattle.pg_text.specs.Lines.{cut_at, parts_of_cut, words_left, words_of, first_rest}
 
 -- where no element passes, the list is the one part
 split_missing : {X : Type 0} (p : X → Bool) (xs : List X) → length xs ≤ position_or_len p xs → slice_split p xs ≡ xs ∷ []
 split_missing p [] h = refl
 split_missing p (x ∷ xs) h =
     (elim (p x) as (λ b. length (x ∷ xs) ≤ cond (not b) (1 + position_or_len p xs) 0 → cond b ([] ∷ slice_split p xs) (onto_first x (slice_split p xs)) ≡ (x ∷ xs) ∷ []) [
-      true ↦ λ (g : length (x ∷ xs) ≤ 0). absurd (omega arith)
-    | false ↦ λ (g : length (x ∷ xs) ≤ 1 + position_or_len p xs). ap (onto_first x) (split_missing p xs (omega arith))
+      | true ↦ λ (g : length (x ∷ xs) ≤ 0). absurd (omega arith)
+      | false ↦ λ (g : length (x ∷ xs) ≤ 1 + position_or_len p xs). ap (onto_first x) (split_missing p xs (omega arith))
     ]) h
 
 -- cutting all is cutting once, and then the rest
@@ -21,7 +21,7 @@ pub parts_cut : (c : ℕ) (bytes : List ℕ) → slice_split (λ b. b == c) byte
 parts_cut c bytes = at (nat_lt (position_or_len (λ b. b == c) bytes) (length bytes)) refl
   where
     at : (b : Bool) → nat_lt (position_or_len (λ b. b == c) bytes) (length bytes) ≡ b → slice_split (λ b. b == c) bytes
-      ≡ parts_of_cut c bytes (option_map (λ i. (take i bytes, drop (i + 1) bytes)) (cond b (Some (position_or_len (λ b. b == c) bytes)) None))
+        ≡ parts_of_cut c bytes (option_map (λ i. (take i bytes, drop (i + 1) bytes)) (cond b (Some (position_or_len (λ b. b == c) bytes)) None))
     at true h = slice_split_first (λ b. b == c) bytes 0 (ltb-true _ _ h)
     at false h = split_missing (λ b. b == c) bytes (ltb-false _ _ h)
 

@@ -1,3 +1,8 @@
 pub mod Cuts
 pub mod Firsts
 pub mod Numbers
+pub mod Options
+pub mod Spellings
+pub mod Judging
+pub mod Faults
+pub mod Progress

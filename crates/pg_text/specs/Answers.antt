@@ -1,5 +1,5 @@
 -- What a function answers, against what is to be answered: want of memory may come in its place.
-use Rattle.std.specs.Prelude.{◌≡◌, Result, Ok, Err}
+use Rattle.std.specs.Prelude.{ℕ, ◌≡◌, Result, Ok, Err}
 use Rattle.pg_perm.specs.declared.fault.Fault.{Fault}
 use Rattle.pg_perm.specs.declared.fault.Rule.{Rule}
 use Rattle.pg_text.specs.declared.error.LineError.{LineError}
@@ -16,3 +16,8 @@ abbrev pub Reads : {A : Type 0} → Result A TextError → Result A Fault → Ty
 Reads (Ok x) wanted = wanted ≡ Ok x
 Reads (Err (text.Form f)) wanted = wanted ≡ Err f
 Reads (Err text.Memory) wanted = Unit {0}
+
+-- the error of a text whose line n has this error
+abbrev pub text_error : ℕ → LineError → TextError
+text_error n (line.Breaks R) = text.Form (record { line = n; rule = R })
+text_error n line.Memory = text.Memory

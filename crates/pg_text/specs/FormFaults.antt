@@ -1,14 +1,13 @@
 -- The rules of the form of a text, and its first fault.
-use Rattle.std.specs.Prelude.{ℕ, ◌≡◌, ◌<◌, ◌≤◌, ◌+◌, ◌-◌, ◌⊎◌, Bool, true, false, not, ◌||◌, nat_lt, List, [], ◌∷◌, length, Option, Some, None, is_none, Result, Ok, Err, IsTrue, if◌then◌else◌, unwrap_or}
+use Rattle.std.specs.Prelude.{ℕ, ◌≡◌, ◌<◌, ◌≤◌, ◌+◌, ◌⊎◌, Bool, false, not, ◌||◌, nat_lt, List, [], ◌∷◌, length, Option, Some, None, is_none, IsTrue, unwrap_or, codes}
 use Rattle.std.specs.Option.{option_map_or}
 use Rattle.pg_perm.specs.declared.draft.Draft.{Draft}
 use Rattle.pg_perm.specs.declared.fault.Fault.{Fault}
 use Rattle.pg_perm.specs.declared.fault.Rule.{Rule}
 use Rattle.pg_perm.specs.declared.fault.Rule.TheVariants.{F1, F2, F3, F4, F5, F6}
 use Rattle.pg_text.specs.declared.line.Kind.{Kind}
-use Rattle.pg_text.specs.declared.line.Kind.TheVariants as kind
 use Rattle.pg_text.specs.declared.line.Line.{Line}
-use Rattle.pg_text.specs.Lines.{lines_of, words_of, first_line}
+use Rattle.pg_text.specs.Lines.{lines_of, words_of}
 use Rattle.pg_text.specs.Kinds.{rank_of, kind_of}
 use Rattle.pg_text.specs.Reading.{line_of}
 use Rattle.pg_text.specs.Numbering.{with_line, is_taken, is_full}
@@ -18,9 +17,13 @@ pub record Above : Type 0 where
   pub kind : Option Kind
   pub draft : Draft
 
+-- the draft of no lines; the protocol line gives it a line and a name
+abbrev pub no_draft : Draft
+no_draft = record { line = 0; name = codes "none"; caches = []; dirs = []; messages = []; cores = []; takes = []; rows = [] }
+
 -- no lines
 abbrev pub nothing : Above
-nothing = record { kind = None; draft = record { line = 0; name = []; caches = []; dirs = []; messages = []; cores = []; takes = []; rows = [] } }
+nothing = record { kind = None; draft = no_draft }
 
 abbrev pub is_protocol : Kind → Bool
 is_protocol k = nat_lt (rank_of k) 1
@@ -56,7 +59,7 @@ ends line = option_map_or (λ l. nat_lt 8 (rank_of (kind_of l))) (line_of (words
 abbrev pub BreaksIn : Above → ℕ → List (List ℕ) → ℕ → Rule → Type 0
 BreaksIn above n [] L R = (L ≡ n) × (R ≡ F6)
 BreaksIn above n (line ∷ lines) L R = ((L ≡ n) × IsTrue (breaks above n (words_of line) R))
-  ⊎ (IsTrue (not (ends line)) × BreaksIn (after above n line) (n + 1) lines L R)
+    ⊎ (IsTrue (not (ends line)) × BreaksIn (after above n line) (n + 1) lines L R)
 
 -- line L of the text breaks rule R
 abbrev pub Breaks : List ℕ → ℕ → Rule → Type 0

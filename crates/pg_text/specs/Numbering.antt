@@ -1,12 +1,9 @@
 -- What the lines of a text declare, and the numbers of what they use.
-use Rattle.std.specs.Prelude.{ℕ, ◌+◌, Bool, true, false, ◌||◌, nat_le, List, [], ◌∷◌, ◌++◌, map, length, codes, slice_get, Option, Some, None, is_some, if◌then◌else◌, bytes_eq}
+use Rattle.std.specs.Prelude.{ℕ, ◌+◌, Bool, true, false, ◌||◌, nat_le, List, [], ◌∷◌, ◌++◌, length, codes, slice_get, Option, Some, None, is_some, if◌then◌else◌, bytes_eq}
 use Rattle.std.specs.List.{list_any}
 use Rattle.std.specs.Option.{option_map}
 use Rattle.pg_names.specs.Number.{number_of}
 use Rattle.pg_perm.specs.declared.draft.Draft.{Draft}
-use Rattle.pg_perm.specs.declared.draft.CacheLine.{CacheLine}
-use Rattle.pg_perm.specs.declared.draft.MsgLine.{MsgLine}
-use Rattle.pg_perm.specs.declared.draft.CoreLine.{CoreLine}
 use Rattle.pg_perm.specs.declared.draft.CoreForm.{CoreForm}
 use Rattle.pg_perm.specs.declared.draft.CoreForm.TheVariants as form
 use Rattle.pg_perm.specs.declared.draft.Pair.{Pair}

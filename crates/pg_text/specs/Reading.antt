@@ -9,8 +9,7 @@ use Rattle.pg_perm.specs.declared.kinds.ReqClass.{ReqClass}
 use Rattle.pg_perm.specs.declared.kinds.ReqClass.TheVariants as asks
 use Rattle.pg_perm.specs.declared.kinds.Event.{Event}
 use Rattle.pg_perm.specs.declared.kinds.Event.TheVariants.{Load, Store, Evict}
-use Rattle.pg_perm.specs.declared.draft.MsgClass.{MsgClass}
-use Rattle.pg_perm.specs.declared.draft.MsgClass.TheVariants.{Request, Forward, Reply}
+use Rattle.pg_perm.specs.declared.draft.MsgClass.TheVariants.{Request, Reply}
 use Rattle.pg_text.specs.declared.line.Line.{Line}
 use Rattle.pg_text.specs.declared.line.Line.TheVariants.{Protocol, Cache, Message, Core, End}
 use Rattle.pg_text.specs.declared.line.CoreShape.{CoreShape}
@@ -26,28 +25,28 @@ None >>= f = None
 
 abbrev pub role_of : List ℕ → Option Role
 role_of w = if bytes_eq w (codes "out") then Some Out
-  else if bytes_eq w (codes "shared") then Some Shared
-  else if bytes_eq w (codes "owner") then Some Owner
-  else None
+    else if bytes_eq w (codes "shared") then Some Shared
+    else if bytes_eq w (codes "owner") then Some Owner
+    else None
 
 abbrev pub perm_of : List ℕ → Option Perm
 perm_of w = if bytes_eq w (codes "none") then Some perm.None
-  else if bytes_eq w (codes "read") then Some perm.Read
-  else if bytes_eq w (codes "write") then Some perm.Write
-  else None
+    else if bytes_eq w (codes "read") then Some perm.Read
+    else if bytes_eq w (codes "write") then Some perm.Write
+    else None
 
 abbrev pub request_of : List ℕ → Option ReqClass
 request_of w = if bytes_eq w (codes "read") then Some asks.Read
-  else if bytes_eq w (codes "write") then Some asks.Write
-  else if bytes_eq w (codes "clean") then Some asks.Clean
-  else if bytes_eq w (codes "dirty") then Some asks.Dirty
-  else None
+    else if bytes_eq w (codes "write") then Some asks.Write
+    else if bytes_eq w (codes "clean") then Some asks.Clean
+    else if bytes_eq w (codes "dirty") then Some asks.Dirty
+    else None
 
 abbrev pub event_of : List ℕ → Option Event
 event_of w = if bytes_eq w (codes "load") then Some Load
-  else if bytes_eq w (codes "store") then Some Store
-  else if bytes_eq w (codes "evict") then Some Evict
-  else None
+    else if bytes_eq w (codes "store") then Some Store
+    else if bytes_eq w (codes "evict") then Some Evict
+    else None
 
 -- the first word where it is a name, and the words behind it
 unfoldable pub name_at : List (List ℕ) → Option (List ℕ × List (List ℕ))
@@ -146,12 +145,12 @@ end_line ws = do
 -- the line whose first word is w, and whose other words are ws
 abbrev pub line_after : List ℕ → List (List ℕ) → Option Line
 line_after w ws = if bytes_eq w (codes "protocol") then protocol_line ws
-  else if bytes_eq w (codes "cache") then cache_line ws
-  else if bytes_eq w (codes "request") then request_line ws
-  else if bytes_eq w (codes "reply") then reply_line ws
-  else if bytes_eq w (codes "core") then core_line ws
-  else if bytes_eq w (codes "end") then end_line ws
-  else None
+    else if bytes_eq w (codes "cache") then cache_line ws
+    else if bytes_eq w (codes "request") then request_line ws
+    else if bytes_eq w (codes "reply") then reply_line ws
+    else if bytes_eq w (codes "core") then core_line ws
+    else if bytes_eq w (codes "end") then end_line ws
+    else None
 
 -- the line that the words are, where they are in a form
 unfoldable pub line_of : List (List ℕ) → Option Line

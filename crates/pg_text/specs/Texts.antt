@@ -1,5 +1,6 @@
 -- What a text says, and where it ends.
-use Rattle.std.specs.Prelude.{ℕ, zero, suc, ◌≡◌, ◌≢◌, ◌<◌, ◌≤◌, ◌+◌, ◌-◌, Bool, true, false, ◌||◌, nat_lt, List, [], ◌∷◌, length, Option, Some, None, Result, Ok, Err, if◌then◌else◌, option_map}
+use Rattle.std.specs.Prelude.{ℕ, zero, suc, ◌≡◌, ◌+◌, ◌-◌, Bool, true, false, ◌||◌, nat_lt, List, [], ◌∷◌, length, Option, Some, None, Result, Ok, Err, if◌then◌else◌}
+use Rattle.std.specs.Option.{option_map_or}
 use Rattle.pg_perm.specs.declared.draft.Draft.{Draft}
 use Rattle.pg_perm.specs.declared.fault.Fault.{Fault}
 use Rattle.pg_perm.specs.declared.fault.Rule.{Rule}
@@ -7,18 +8,14 @@ use Rattle.pg_perm.specs.declared.fault.Rule.TheVariants.{F1, F2, F3, F4, F5, F6
 use Rattle.pg_text.specs.declared.line.Kind.{Kind}
 use Rattle.pg_text.specs.declared.line.Line.{Line}
 use Rattle.pg_text.specs.Lines.{lines_of, words_of, first_line}
-use Rattle.pg_text.specs.Kinds.{kind_of}
+use Rattle.pg_text.specs.Kinds.{kind_of, rank_of}
 use Rattle.pg_text.specs.Reading.{line_of}
 use Rattle.pg_text.specs.Numbering.{with_line, is_taken, is_full}
 use Rattle.pg_text.specs.FormFaults.{Above, nothing, is_out_of_order, ends, after, Breaks}
 
 -- the bytes behind the first line
 abbrev pub behind_line : List ℕ → List ℕ
-behind_line bytes = rest_of (first_line bytes)
-  where
-    rest_of : Option (List ℕ × List ℕ) → List ℕ
-    rest_of None = []
-    rest_of (Some p) = p.1
+behind_line bytes = option_map_or (λ p. p.1) (first_line bytes) []
 
 -- the bytes behind the first n lines
 abbrev pub behind : ℕ → List ℕ → List ℕ
@@ -46,6 +43,10 @@ judged above n is_long (Some l) = if is_out_of_order above.kind (kind_of l) then
 abbrev pub judge : Above → ℕ → List ℕ → Result Above Rule
 judge above n line = judged above n (nat_lt 80 (length (words_of line))) (line_of (words_of line))
 
+-- whether the last line is the end line
+abbrev pub has_ended_by : Above → Bool
+has_ended_by above = option_map_or (λ k. nat_lt 8 (rank_of k)) above.kind false
+
 -- what reading gives once line n was judged
 abbrev pub read_on : ℕ → Bool → Result Above Rule → (Above → Result (Draft × ℕ) Fault) → Result (Draft × ℕ) Fault
 read_on n is_last (Err R) go_on = Err (record { line = n; rule = R })
@@ -61,13 +62,14 @@ read_lines above n (line ∷ lines) = read_on n (ends line) (judge above n line)
 abbrev pub place_behind : ℕ → List ℕ → ℕ
 place_behind n bytes = length bytes - length (behind n bytes)
 
+-- the draft with the place behind line n in place of n
+abbrev pub placed : List ℕ → Result (Draft × ℕ) Fault → Result (Draft × ℕ) Fault
+placed bytes (Ok p) = Ok (p.0, place_behind p.1 bytes)
+placed bytes (Err f) = Err f
+
 -- the draft of a text and the place behind its end line, or its first fault
 abbrev pub reading : List ℕ → Result (Draft × ℕ) Fault
-reading bytes = placed (read_lines nothing 1 (lines_of bytes))
-  where
-    placed : Result (Draft × ℕ) Fault → Result (Draft × ℕ) Fault
-    placed (Ok p) = Ok (p.0, place_behind p.1 bytes)
-    placed (Err f) = Err f
+reading bytes = placed bytes (read_lines nothing 1 (lines_of bytes))
 
 -- what the lines up to the first end line declare, one after another, and the number of that line
 abbrev pub drafted : Above → ℕ → List (List ℕ) → Draft × ℕ

@@ -3,13 +3,17 @@ ghost use Rattle.std.specs.List.{list_any};
 ghost use Rattle.pg_text.specs.Answers.{Judges};
 ghost use Rattle.pg_text.specs.Names.{taken_names};
 ghost use Rattle.pg_text.specs.Texts.{declared};
+ghost use Rattle.pg_text.specs.FormFaults.{no_draft};
 ghost use Rattle.pg_text.specs.Numbering as draft;
 
-use crate::pairs::NamePairs;
-use pg_names::Names;
 use crate::error::LineError;
 use crate::line::{CoreShape, Line};
-use pg_perm::{CacheLine, CoreForm, CoreLine, Draft, Event, MsgClass, MsgLine, Pair, Pairs, ReplyName, Rule, Word};
+use crate::pairs::NamePairs;
+use pg_names::Names;
+use pg_perm::{
+    CacheLine, CoreForm, CoreLine, Draft, Event, MsgClass, MsgLine, Pair, Pairs, ReplyName, Rule,
+    Sequence, Word,
+};
 use std::alloc::{AllocError, Global};
 use std::marker::Model;
 
@@ -269,6 +273,90 @@ impl Drafting {
         let cores = self.draft.cores.len() as u64;
         let takes = self.draft.takes.len() as u64;
         let rows = self.draft.rows.len() as u64;
-        cores >= ROW_LIMIT || takes >= ROW_LIMIT || rows >= ROW_LIMIT || cores + takes + rows >= ROW_LIMIT
+        cores >= ROW_LIMIT
+            || takes >= ROW_LIMIT
+            || rows >= ROW_LIMIT
+            || cores + takes + rows >= ROW_LIMIT
+    }
+
+    /// Takes in line `number`, or says which of the rules F3 to F5 it breaks first. A line `is_long` that has more words than any may.
+    pub fn with_line(
+        self,
+        alloc: Global,
+        number: u32,
+        line: Line,
+        is_long: bool,
+    ) -> Result<Drafting, LineError>
+        ensures { Judges result (declared self number line.entry is_long) }
+    {
+        match line {
+            Line::Protocol { name } => self.with_protocol(number, name, is_long),
+            Line::Cache {
+                name,
+                role,
+                perm,
+                clean,
+            } => self.with_cache(
+                CacheLine {
+                    line: number,
+                    name,
+                    role,
+                    perm,
+                    clean,
+                },
+                is_long,
+            ),
+            Line::Message { name, class } => self.with_message(
+                MsgLine {
+                    line: number,
+                    name,
+                    class,
+                },
+                is_long,
+            ),
+            Line::Core {
+                state,
+                event,
+                shape,
+            } => self.with_core(alloc, number, state, event, shape, is_long),
+            Line::End => {
+                if is_long {
+                    Err(LineError::Breaks(Rule::F5))
+                } else {
+                    Ok(self)
+                }
+            }
+        }
+    }
+
+    /// No lines.
+    pub fn new(alloc: Global) -> Drafting
+        ensures { result ≡ no_draft }
+    {
+        Drafting {
+            draft: Draft {
+                line: 0,
+                name: Word::new(b"none"),
+                caches: Sequence::new(alloc),
+                dirs: Sequence::new(alloc),
+                messages: Sequence::new(alloc),
+                cores: Sequence::new(alloc),
+                takes: Sequence::new(alloc),
+                rows: Sequence::new(alloc),
+            },
+            caches: Names::new(alloc),
+            messages: Names::new(alloc),
+        }
+    }
+
+    pub fn into_draft(self) -> Draft
+        ensures { result ≡ self }
+    {
+        let Drafting {
+            draft,
+            caches: _,
+            messages: _,
+        } = self;
+        draft
     }
 }

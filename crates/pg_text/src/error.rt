@@ -40,3 +40,17 @@ impl From<AllocError> for LineError {
         LineError::Memory
     }
 }
+
+impl LineError {
+    ghost use Rattle.pg_text.specs.Answers.{text_error};
+
+    /// The same of a text, in which the line has this number.
+    pub fn at(self, line: u32) -> TextError
+        ensures { result ≡ text_error line self }
+    {
+        match self {
+            LineError::Breaks(rule) => TextError::Form(Fault { line, rule }),
+            LineError::Memory => TextError::Memory,
+        }
+    }
+}

@@ -4,12 +4,15 @@
 mod cut;
 mod drafting;
 mod error;
+mod laws;
 mod line;
 mod lines;
 mod pairs;
-mod text;
+mod reader;
 mod reading;
+mod text;
 mod words;
 
 pub use error::TextError;
+pub use laws::{first_fault_is_exact, forms_are_exact};
 pub use text::read;

@@ -1,0 +1,161 @@
+-- What judging one line says of the rules that the line breaks.
+use Rattle.std.proofs.Common.{◌≡◌, ℕ, ◌≤◌, Bool, true, false, List, Option, Some, None, Result, Ok, Err, refl, sym, subst, ◌∙◌, arith}
+use Rattle.std.specs.Prelude.{◌||◌, nat_lt, length, is_none, unwrap_or}
+use Rattle.pg_perm.specs.declared.draft.Draft.{Draft}
+use Rattle.pg_perm.specs.declared.fault.Rule.{Rule}
+use Rattle.pg_perm.specs.declared.fault.Rule.TheVariants.{F1, F2, F3, F4, F5, F6}
+use Rattle.pg_text.specs.declared.line.Kind.{Kind}
+use Rattle.pg_text.specs.declared.line.Line.{Line}
+use Rattle.pg_text.specs.Lines.{words_of}
+use Rattle.pg_text.specs.Kinds.{kind_of}
+use Rattle.pg_text.specs.Reading.{line_of}
+use Rattle.pg_text.specs.Numbering.{with_line, is_taken, is_full}
+use Rattle.pg_text.specs.FormFaults.{Above, is_out_of_order, breaks, below, after, rule_rank}
+use Rattle.pg_text.specs.Texts.{judged, judge}
+use Rattle.pg_text.proofs.Options.{same_err, same_ok}
+
+-- what is judged of a line of this kind, from the answers to F2 to F5
+abbrev outcome : Kind → Bool → Bool → Option Draft → Bool → Result Above Rule
+outcome k true taken more over = Err F2
+outcome k false true more over = Err F3
+outcome k false false None over = Err F4
+outcome k false false (Some d) true = Err F5
+outcome k false false (Some d) false = Ok (record { kind = Some k; draft = d })
+
+-- the rules that are broken, from the same answers
+abbrev broken : Bool → Bool → Option Draft → Bool → Rule → Bool
+broken order taken more over F1 = false
+broken order taken more over F2 = order
+broken order taken more over F3 = taken
+broken order taken more over F4 = is_none more
+broken order taken more over F5 = over
+broken order taken more over F6 = false
+
+-- no rule before F2 is among the broken ones
+from_F2 : (order taken over : Bool) (more : Option Draft) (Q : Rule) → broken order taken more over Q ≡ true → 2 ≤ rule_rank Q
+from_F2 order taken over more F1 h = absurd cc
+from_F2 order taken over more _ h = omega arith
+
+-- where the order is right, no rule before F3 is among the broken ones
+from_F3 : (taken over : Bool) (more : Option Draft) (Q : Rule) → broken false taken more over Q ≡ true → 3 ≤ rule_rank Q
+from_F3 taken over more F1 h = absurd cc
+from_F3 taken over more F2 h = absurd cc
+from_F3 taken over more _ h = omega arith
+
+-- where also no name is taken, no rule before F4 is among them
+from_F4 : (over : Bool) (more : Option Draft) (Q : Rule) → broken false false more over Q ≡ true → 4 ≤ rule_rank Q
+from_F4 over more F1 h = absurd cc
+from_F4 over more F2 h = absurd cc
+from_F4 over more F3 h = absurd cc
+from_F4 over more _ h = omega arith
+
+-- where also each name is declared, no rule before F5 is among them
+from_F5 : (over : Bool) (d : Draft) (Q : Rule) → broken false false (Some d) over Q ≡ true → 5 ≤ rule_rank Q
+from_F5 over d F1 h = absurd cc
+from_F5 over d F2 h = absurd cc
+from_F5 over d F3 h = absurd cc
+from_F5 over d F4 h = absurd cc
+from_F5 over d _ h = omega arith
+
+-- R is broken, and each rule that is broken is R or comes behind it
+abbrev pub IsFirst : (Rule → Bool) → Rule → Type 0
+IsFirst test R = (test R ≡ true) × ((Q : Rule) → test Q ≡ true → rule_rank R ≤ rule_rank Q)
+
+-- no rule is broken
+abbrev pub IsClean : (Rule → Bool) → Type 0
+IsClean test = (Q : Rule) → test Q ≡ false
+
+-- the rule that is given is the first broken one
+outcome_first : (k : Kind) (order taken : Bool) (more : Option Draft) (over : Bool) (R : Rule)
+    → outcome k order taken more over ≡ Err R → IsFirst (broken order taken more over) R
+outcome_first k true taken more over R e = subst (IsFirst (broken true taken more over)) (same_err F2 R e) (refl, from_F2 true taken over more)
+outcome_first k false true more over R e = subst (IsFirst (broken false true more over)) (same_err F3 R e) (refl, from_F3 true over more)
+outcome_first k false false None over R e = subst (IsFirst (broken false false None over)) (same_err F4 R e) (refl, from_F4 over None)
+outcome_first k false false (Some d) true R e = subst (IsFirst (broken false false (Some d) true)) (same_err F5 R e) (refl, from_F5 true d)
+outcome_first k false false (Some d) false R e = absurd cc
+
+-- where no answer is against the line, no rule is broken
+none_broken : (d : Draft) → IsClean (broken false false (Some d) false)
+none_broken d F1 = refl
+none_broken d _ = refl
+
+-- a line that is taken breaks no rule, and its kind and draft are then those of the lines above
+outcome_sound : (k : Kind) (order taken : Bool) (more : Option Draft) (over : Bool) (old : Draft) (above : Above)
+    → outcome k order taken more over ≡ Ok above → (above ≡ record { kind = Some k; draft = unwrap_or more old }) × IsClean (broken order taken more over)
+outcome_sound k true taken more over old above e = absurd cc
+outcome_sound k false true more over old above e = absurd cc
+outcome_sound k false false None over old above e = absurd cc
+outcome_sound k false false (Some d) true old above e = absurd cc
+outcome_sound k false false (Some d) false old above e = (sym (same_ok _ above e), none_broken d)
+
+-- a line in a form is judged by the answers to F2 to F5
+judged_as : (above : Above) (n : ℕ) (is_long : Bool) (l : Line)
+    → judged above n is_long (Some l)
+    ≡ outcome (kind_of l) (is_out_of_order above.kind (kind_of l)) (is_taken above.draft l) (with_line above.draft n l) (is_long || is_full above.draft l)
+judged_as above n is_long l = at _ _ _ _ refl refl refl refl
+  where
+    at : (order taken : Bool) (more : Option Draft) (over : Bool) → is_out_of_order above.kind (kind_of l) ≡ order → is_taken above.draft l ≡ taken
+        → with_line above.draft n l ≡ more → (is_long || is_full above.draft l) ≡ over
+        → judged above n is_long (Some l) ≡ outcome (kind_of l) order taken more over
+    at true taken more over a b c d = rw a refl
+    at false true more over a b c d = rw (a, b) refl
+    at false false None over a b c d = rw (a, b, c) refl
+    at false false (Some more) true a b c d = rw (a, b, c, d) refl
+    at false false (Some more) false a b c d = rw (a, b, c, d) refl
+
+-- the rules that a line breaks, from whether it is long and from its form
+abbrev breaks_as : Above → ℕ → Bool → Option Line → Rule → Bool
+breaks_as above n is_long None F1 = true
+breaks_as above n is_long None F5 = is_long || false
+breaks_as above n is_long None _ = false
+breaks_as above n is_long (Some l) R =
+    broken (is_out_of_order above.kind (kind_of l)) (is_taken above.draft l) (with_line above.draft n l) (is_long || is_full above.draft l) R
+
+-- the rules that a line breaks are those that its length and its form break
+breaks_is : (above : Above) (n : ℕ) (ws : List (List ℕ)) (o : Option Line) → line_of ws ≡ o → (R : Rule)
+    → breaks above n ws R ≡ breaks_as above n (nat_lt 80 (length ws)) o R
+breaks_is above n ws None e F1 = rw e refl
+breaks_is above n ws None e F2 = rw e refl
+breaks_is above n ws None e F3 = rw e refl
+breaks_is above n ws None e F4 = rw e refl
+breaks_is above n ws None e F5 = rw e refl
+breaks_is above n ws None e F6 = refl
+breaks_is above n ws (Some l) e F1 = rw e refl
+breaks_is above n ws (Some l) e F2 = rw e refl
+breaks_is above n ws (Some l) e F3 = rw e refl
+breaks_is above n ws (Some l) e F4 = rw e refl
+breaks_is above n ws (Some l) e F5 = rw e refl
+breaks_is above n ws (Some l) e F6 = refl
+
+-- no rule comes before F1
+from_F1 : (Q : Rule) → 1 ≤ rule_rank Q
+from_F1 F1 = omega arith
+from_F1 _ = omega arith
+
+-- a form that is refused breaks the rule that is given, and no rule before it
+judged_first : (above : Above) (n : ℕ) (is_long : Bool) (o : Option Line) (R : Rule) → judged above n is_long o ≡ Err R
+    → IsFirst (breaks_as above n is_long o) R
+judged_first above n is_long None R e = subst (IsFirst (breaks_as above n is_long None)) (same_err F1 R e) (refl, λ Q h. from_F1 Q)
+judged_first above n is_long (Some l) R e =
+    outcome_first (kind_of l) _ _ _ _ R (sym (judged_as above n is_long l) ∙ e)
+
+-- a form that is taken breaks no rule, and is then the last of those above
+judged_sound : (above : Above) (n : ℕ) (is_long : Bool) (o : Option Line) (more : Above) → judged above n is_long o ≡ Ok more
+    → (more ≡ below above n o) × IsClean (breaks_as above n is_long o)
+judged_sound above n is_long None more e = absurd cc
+judged_sound above n is_long (Some l) more e =
+    outcome_sound (kind_of l) _ _ _ _ above.draft more (sym (judged_as above n is_long l) ∙ e)
+
+-- a line that is refused breaks the rule that is given, and no rule before it
+pub judge_first : (above : Above) (n : ℕ) (line : List ℕ) (R : Rule) → judge above n line ≡ Err R → IsFirst (breaks above n (words_of line)) R
+judge_first above n line R e =
+    let same = breaks_is above n (words_of line) _ refl in
+    let p = judged_first above n _ _ R e in
+    (same R ∙ p.0, λ Q h. p.1 Q (sym (same Q) ∙ h))
+
+-- a line that is taken breaks no rule, and is then the last of those above
+pub judge_sound : (above : Above) (n : ℕ) (line : List ℕ) (more : Above) → judge above n line ≡ Ok more
+    → (more ≡ after above n line) × IsClean (breaks above n (words_of line))
+judge_sound above n line more e =
+    let p = judged_sound above n _ _ more e in
+    (p.0, λ Q. breaks_is above n (words_of line) _ refl Q ∙ p.1 Q)

@@ -1,0 +1,38 @@
+-- What an option or a result says that was found by steps and tests.
+use Rattle.std.proofs.Common.{◌≡◌, ℕ, Bool, true, false, List, Option, Some, None, Result, Ok, Err, refl, cond}
+use Rattle.std.specs.Str.{bytes_eq}
+use Rattle.std.proofs.lemmas.Slice.Eq.{bytes_eq-Decides}
+use Rattle.pg_text.specs.Reading.{◌>>=◌}
+
+-- what follows from a step's value and from what that led to
+pub then_some : {A B P : Type 0} (o : Option A) (f : A → Option B) (y : B) → (o >>= f) ≡ Some y
+    → ((x : A) → o ≡ Some x → f x ≡ Some y → P) → P
+then_some None f y e g = absurd cc
+then_some (Some x) f y e g = g x refl e
+
+-- words that pass the test are one word
+pub same_word : (w s : List ℕ) → bytes_eq w s ≡ true → w ≡ s
+same_word w s = (bytes_eq-Decides w s).0
+
+-- what holds of each branch's value holds of the value that a test led to
+tested : {A : Type 0} (P : A → Type 0) (b : Bool) (o p : Option A) (y : A) → (b ≡ true → o ≡ Some y → P y) → (p ≡ Some y → P y)
+    → cond b o p ≡ Some y → P y
+tested P true o p y first other e = first refl e
+tested P false o p y first other e = other e
+
+-- the same of a test for a word
+pub told : {A : Type 0} (P : A → Type 0) (w s : List ℕ) (o p : Option A) (y : A) → (w ≡ s → o ≡ Some y → P y) → (p ≡ Some y → P y)
+    → cond (bytes_eq w s) o p ≡ Some y → P y
+told P w s o p y first other e = tested P (bytes_eq w s) o p y (λ t. first (same_word w s t)) other e
+
+-- nothing is no value that was found
+pub nothing_found : {A : Type 0} {P : Type 0} (y : A) → None ≡ Some y → P
+nothing_found y e = absurd cc
+
+-- one failure has one reason
+pub same_err : {A E : Type 0} (x y : E) → ◌≡◌ {A = Result A E} (Err x) (Err y) → x ≡ y
+same_err x y e = cc
+
+-- one success has one value
+pub same_ok : {A E : Type 0} (x y : A) → ◌≡◌ {A = Result A E} (Ok x) (Ok y) → x ≡ y
+same_ok x y e = cc

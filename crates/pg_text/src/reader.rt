@@ -1,0 +1,103 @@
+ghost use Rattle.std.specs.Prelude.{◌≡◌, length, nat_lt};
+ghost use Rattle.pg_text.specs.Answers.{Judges};
+ghost use Rattle.pg_text.specs.FormFaults.{is_out_of_order as is_out_of_order_of, nothing};
+ghost use Rattle.pg_text.specs.Texts.{judge, has_ended_by};
+
+use crate::drafting::Drafting;
+use crate::error::LineError;
+use crate::line::Kind;
+use crate::reading::line_of;
+use crate::words::Words;
+use pg_perm::{Draft, Rule};
+use std::alloc::Global;
+use std::marker::Model;
+
+/// The most words that a line has.
+const WORD_LIMIT: usize = 80;
+
+/// The lines of a text that were read. Contracts see the kind of the last one, and what all of them declare.
+#[derive(Drop)]
+pub struct Reader {
+    kind: Option<Kind>,
+    drafting: Drafting,
+}
+
+impl Model for Reader {
+    ghost use Rattle.pg_text.specs.FormFaults.{Above};
+
+    ghost Value = { Above };
+
+    ghost view = { λ r. record { kind = r.kind; draft = r.drafting } };
+}
+
+/// Whether a line has more words than any may.
+fn is_long(words: &Words) -> bool
+    ensures { result ≡ nat_lt 80 (length words.now) }
+{
+    let mut left = words.again();
+    for _ in 0..WORD_LIMIT {
+        let Some((_, rest)) = left.first() else {
+            return false;
+        };
+        left = rest;
+    }
+    left.first().is_some()
+}
+
+fn is_out_of_order(above: Option<Kind>, kind: Kind) -> bool
+    ensures { result ≡ is_out_of_order_of above kind }
+{
+    match above {
+        None => kind.rank() >= 1,
+        Some(above) => kind.rank() < 1 || kind.rank() < above.rank(),
+    }
+}
+
+impl Reader {
+    /// No lines.
+    pub fn new(alloc: Global) -> Reader
+        ensures { result ≡ nothing }
+    {
+        Reader {
+            kind: None,
+            drafting: Drafting::new(alloc),
+        }
+    }
+
+    /// Takes in the next line, whose number is `number`, or says which of the rules F1 to F5 it breaks first.
+    pub fn with_line(self, alloc: Global, number: u32, bytes: &[u8]) -> Result<Reader, LineError>
+        ensures { Judges result (judge self number bytes.now) }
+    {
+        let words = Words::of(bytes);
+        let Some(line) = line_of(&words) else {
+            return Err(LineError::Breaks(Rule::F1));
+        };
+        let kind = line.kind();
+        if is_out_of_order(self.kind, kind) {
+            return Err(LineError::Breaks(Rule::F2));
+        }
+        let Reader { drafting, .. } = self;
+        let drafting = drafting.with_line(alloc, number, line, is_long(&words))?;
+        Ok(Reader {
+            kind: Some(kind),
+            drafting,
+        })
+    }
+
+    /// Whether the last line is the end line.
+    pub fn has_ended(&self) -> bool
+        ensures { result ≡ has_ended_by self.now }
+    {
+        match self.kind {
+            Some(kind) => kind.rank() > 8,
+            None => false,
+        }
+    }
+
+    pub fn into_draft(self) -> Draft
+        ensures { result ≡ self.draft }
+    {
+        let Reader { kind: _, drafting } = self;
+        drafting.into_draft()
+    }
+}
