@@ -29,10 +29,11 @@ impl From<AllocError> for ReadAllError {
 }
 
 /// The most bytes that one call of a source is asked for.
-const PIECE: u64 = 65536;
+const PIECE: usize = 65536;
 
-/// Reads all that is left, up to `limit` bytes. Answers `TooLong` as soon as one byte more than that has been
-/// taken, which it does not store, and `Fault` as soon as the source fails.
+/// Reads all that is left, if that is at most `limit` bytes. Answers `TooLong` as soon as one byte more than that has
+/// been taken, `Fault` as soon as the source fails, and `Memory` where no room is left to store a piece. After each
+/// of these the source goes on behind what was taken.
 pub fn read_all<S: Source>(
     alloc: Global,
     source: &mut S,
@@ -46,11 +47,11 @@ pub fn read_all<S: Source>(
     ensures taken { TakesUpTo limit result (S.left source.old) (S.left source.new) }
     ensures faults { RiseAtFault result (S.faults source.old) (S.faults source.new) }
 {
-    let mut buffer = [0u8; 65536];
+    let mut buffer = [0u8; PIECE];
     let mut all = Vec::new(alloc);
     let mut room = limit as u64 + 1;
     loop {
-        let piece = &mut buffer[..room.min(PIECE) as usize];
+        let piece = &mut buffer[..room.min(PIECE as u64) as usize];
         match source.read(piece) {
             Took::Bytes(count) => {
                 room -= count as u64;
