@@ -1,7 +1,7 @@
 use Rattle.std.proofs.Common.{◌≡◌, ℕ, true, List, [], ◌∷◌, ap, sym, ◌∙◌, Some}
 use Rattle.std.specs.Prelude.{◌&&◌}
 use Rattle.std.proofs.lemmas.Option.{same_Some}
-use Rattle.pg_perm.proofs.Tests.{both}
+use Rattle.pg_perm.proofs.Booleans.{both}
 use Rattle.pg_perm.specs.Names.{is_name, is_state_name}
 use Rattle.pg_text.specs.Lines.{first_rest}
 use Rattle.pg_text.specs.Pairs.{are_pairs}

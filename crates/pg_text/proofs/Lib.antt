@@ -6,3 +6,4 @@ pub mod Spellings
 pub mod Judging
 pub mod Faults
 pub mod Progress
+pub mod Unique

@@ -14,7 +14,7 @@ use Rattle.pg_perm.specs.declared.kinds.ReqClass.TheVariants as asks
 use Rattle.pg_perm.specs.declared.kinds.Event.{Event}
 use Rattle.pg_perm.specs.declared.kinds.Event.TheVariants.{Load, Store, Evict}
 use Rattle.pg_perm.specs.declared.draft.MsgClass.TheVariants.{Request, Forward, Reply}
-use Rattle.pg_perm.proofs.Tests.{both}
+use Rattle.pg_perm.proofs.Booleans.{both}
 use Rattle.pg_text.specs.declared.line.Line.{Line}
 use Rattle.pg_text.specs.declared.line.Line.TheVariants.{Protocol, Cache, Message, Core, End}
 use Rattle.pg_text.specs.declared.line.CoreShape.{CoreShape}

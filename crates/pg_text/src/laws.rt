@@ -1,6 +1,6 @@
 //! Laws of the definitions that the contracts of this crate cite.
 
-ghost use Rattle.std.specs.Prelude.{◌≡◌, ℕ, List};
+ghost use Rattle.std.specs.Prelude.{◌≡◌, ◌↔◌, ℕ, List};
 ghost use Rattle.pg_perm.specs.declared.draft.Draft.{Draft};
 ghost use Rattle.pg_perm.specs.declared.fault.Fault.{Fault};
 ghost use Rattle.pg_text.specs.declared.line.Line.{Line};
@@ -15,8 +15,9 @@ pub fn forms_are_exact()
     ensures spelled { (l : Line) → IsWellNamed l → line_of (spelling l) ≡ Some l }
 {}
 
-/// A text is refused for its first fault alone, and where it is taken no line breaks a rule and the draft is what it declares.
+/// Reading answers a fault exactly where it is the first one of the text, and a draft with a place exactly where no line breaks a rule,
+/// the draft is what the lines declare, and the place is behind the end line.
 pub fn first_fault_is_exact()
-    ensures fault { (bytes : List ℕ) (f : Fault) → reading bytes ≡ Err f → IsFormFault bytes f }
-    ensures text { (bytes : List ℕ) (d : Draft) (place : ℕ) → reading bytes ≡ Ok (d, place) → IsText bytes d place }
+    ensures fault { (bytes : List ℕ) (f : Fault) → (reading bytes ≡ Err f) ↔ IsFormFault bytes f }
+    ensures text { (bytes : List ℕ) (d : Draft) (place : ℕ) → (reading bytes ≡ Ok (d, place)) ↔ IsText bytes d place }
 {}

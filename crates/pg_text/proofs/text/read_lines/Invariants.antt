@@ -1,6 +1,6 @@
 use Rattle.std.proofs.Common.{length}
 use Rattle.pg_text.proofs.Progress.{IsReadSoFar}
-use Rattle.pg_text.proofs.text.read.Given as goal
+use Rattle.pg_text.proofs.text.read_lines.Given as goal
 
 abbrev pub invariant-loop-line : goal.invariant-loop-line
 invariant-loop-line l = IsReadSoFar l.bytes l.rest l.before l.reader

@@ -1,0 +1,71 @@
+-- A text has one first fault, or one draft and place.
+use Rattle.std.proofs.Common.{◌≡◌, ℕ, zero, suc, List, Result, Ok, Err, refl, sym, ap, ◌∙◌, arith, subst, inl, inr}
+use Rattle.std.specs.Prelude.{IfOk}
+use Rattle.pg_perm.specs.declared.draft.Draft.{Draft}
+use Rattle.pg_perm.specs.declared.fault.Fault.{Fault}
+use Rattle.pg_perm.specs.declared.fault.Rule.{Rule}
+use Rattle.pg_perm.specs.declared.fault.Rule.TheVariants.{F1, F2, F3, F4, F5, F6}
+use Rattle.pg_text.specs.declared.error.TextError.{TextError}
+use Rattle.pg_text.specs.declared.error.TextError.TheVariants as error
+use Rattle.pg_text.specs.Answers.{Reads}
+use Rattle.pg_text.specs.FormFaults.{IsLeast, IsFormFault, rule_rank}
+use Rattle.pg_text.specs.Texts.{reading, IsText}
+use Rattle.pg_text.proofs.Faults.{fault, text}
+
+-- the rule at a place
+rule_at : ℕ → Rule
+rule_at zero = F1
+rule_at (suc zero) = F1
+rule_at (suc (suc zero)) = F2
+rule_at (suc (suc (suc zero))) = F3
+rule_at (suc (suc (suc (suc zero)))) = F4
+rule_at (suc (suc (suc (suc (suc zero))))) = F5
+rule_at (suc (suc (suc (suc (suc (suc n)))))) = F6
+
+rule_at-rank : (R : Rule) → rule_at (rule_rank R) ≡ R
+unfolding rule_at
+rule_at-rank F1 = refl
+rule_at-rank F2 = refl
+rule_at-rank F3 = refl
+rule_at-rank F4 = refl
+rule_at-rank F5 = refl
+rule_at-rank F6 = refl
+
+-- each of two faults that come before the other is the other
+same_fault : (f g : Fault) → IsLeast f g.line g.rule → IsLeast g f.line f.rule → f ≡ g
+same_fault f g (inl before) (inl behind) = absurd (omega arith)
+same_fault f g (inl before) (inr behind) = absurd (omega (arith, behind.0))
+same_fault f g (inr before) (inl behind) = absurd (omega (arith, before.0))
+same_fault f g (inr before) (inr behind) =
+    let ranks : rule_rank f.rule ≡ rule_rank g.rule = omega (arith, before.1, behind.1) in
+    let rules : f.rule ≡ g.rule = sym (rule_at-rank f.rule) ∙ ap rule_at ranks ∙ rule_at-rank g.rule in
+    ap (λ (l : ℕ). record { line = l; rule = f.rule }) before.0 ∙ ap (λ (r : Rule). record { line = g.line; rule = r }) rules
+
+-- the first fault is what reading gives
+pub only_fault : (bytes : List ℕ) (f : Fault) → IsFormFault bytes f → reading bytes ≡ Err f
+only_fault bytes f first = at (reading bytes) refl
+  where
+    at : (r : Result (Draft × ℕ) Fault) → reading bytes ≡ r → r ≡ Err f
+    at (Ok p) e = absurd ((text bytes p.0 p.1 e).whole f.line f.rule first.broken)
+    at (Err g) e =
+        let other = fault bytes g e in
+        ap Err (same_fault g f (other.least f.line f.rule first.broken) (first.least g.line g.rule other.broken))
+
+-- the draft of a text is what reading gives
+pub only_text : (bytes : List ℕ) (d : Draft) (place : ℕ) → IsText bytes d place → reading bytes ≡ Ok (d, place)
+only_text bytes d place is_text = at (reading bytes) refl
+  where
+    at : (r : Result (Draft × ℕ) Fault) → reading bytes ≡ r → r ≡ Ok (d, place)
+    at (Err g) e = let other = fault bytes g e in absurd (is_text.whole g.line g.rule other.broken)
+    at (Ok p) e =
+        let other = text bytes p.0 p.1 e in
+        ap (λ (x : Draft). Ok (x, p.1)) (other.declares ∙ sym is_text.declares) ∙ ap (λ (n : ℕ). Ok (d, n)) (other.ended ∙ sym is_text.ended)
+
+-- what a reader answered is the first fault
+pub answered_fault : (bytes : List ℕ) (r : Result (Draft × ℕ) TextError) → Reads r (reading bytes) → (f : Fault) → r ≡ Err (error.Form f) → IsFormFault bytes f
+answered_fault bytes r reads f e = let P : Result (Draft × ℕ) TextError → Type 0 = λ x. Reads x (reading bytes) in fault bytes f (subst P e reads)
+
+-- what a reader answered is the draft
+pub answered_text : (bytes : List ℕ) (r : Result (Draft × ℕ) TextError) → Reads r (reading bytes) → IfOk r (λ x. IsText bytes x.0 x.1)
+answered_text bytes (Ok p) reads = text bytes p.0 p.1 reads
+answered_text bytes (Err e) reads = tt
