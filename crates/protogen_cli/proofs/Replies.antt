@@ -1,0 +1,37 @@
+use Rattle.std.proofs.Common.{◌≡◌, ℕ, ◌+◌, ◌<◌, List, [], Option, None, Some, length, length-append, refl, sym, ap, arith}
+use Rattle.std.specs.Prelude.{Result, Ok, Err, Bool, true, false, nat_lt, if◌then◌else◌}
+use Rattle.std.proofs.lemmas.Bool.{lt-ltb}
+use Rattle.pg_io.specs.ReadAll.{GaveCount}
+use Rattle.pg_perm.specs.declared.draft.Draft.{Draft}
+use Rattle.pg_perm.specs.declared.fault.Fault.{Fault}
+use Rattle.pg_text.specs.Texts.{reading}
+use Rattle.protogen_cli.specs.declared.status.Status.TheVariants.{Usage}
+use Rattle.protogen_cli.specs.Replies.{too_long, most_bytes, answer_to_text, answer_to_input}
+use Rattle.protogen_cli.specs.Ends.{Tells}
+
+-- some input is told, whatever the source tells
+pub some_told : (left : Option (List ℕ)) → (input : List ℕ) × Tells left input
+some_told None = ([], tt)
+some_told (Some left) = (left, refl)
+
+pub answer-long : (input : List ℕ) → 1048576 < length input → answer_to_input input ≡ too_long
+answer-long input h = rw (lt-ltb _ _ h) refl
+
+-- a source that gives too much tells an input that is too long
+pub long_told : (old new : Option (List ℕ)) → GaveCount old new (λ count. count ≡ 1048576 + 1) → (input : List ℕ) × Tells old input × (too_long ≡ answer_to_input input)
+long_told None new (bytes, given, count) = (bytes, tt, sym (answer-long bytes (omega (arith, count))))
+long_told (Some old) None (bytes, given, count) = absurd given
+long_told (Some old) (Some new) (bytes, given, count) =
+    (old, refl, sym (answer-long old (omega (arith, ap length given, length-append bytes new, count))))
+
+-- the reply to an input is not that for words that aren't taken
+pub answer_to_input-not-usage : (input : List ℕ) → Usage ≡ (answer_to_input input).status → ⊥
+answer_to_input-not-usage input = at_length (nat_lt most_bytes (length input))
+  where
+    at_text : (read : Result (Draft × ℕ) Fault) → Usage ≡ (answer_to_text read).status → ⊥
+    at_text (Ok text) e = cc
+    at_text (Err f) e = cc
+
+    at_length : (is_long : Bool) → Usage ≡ (if is_long then too_long else answer_to_text (reading input)).status → ⊥
+    at_length true e = cc
+    at_length false e = at_text (reading input) e

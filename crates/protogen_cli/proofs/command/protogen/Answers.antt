@@ -1,0 +1,56 @@
+use Rattle.std.proofs.Common.{◌∙◌, ap, refl, sym, arith}
+use Rattle.protogen_cli.proofs.Replies.{some_told, answer_to_input-not-usage}
+use Rattle.protogen_cli.proofs.command.protogen.Goals as goal
+
+pub returns-then-not-taken-clause-answer : goal.returns-then-not-taken-clause-answer
+returns-then-not-taken-clause-answer g c =
+    let told = some_told (g.S.Source.left c.args.source.now) in
+    let ends = c.finish.ensures.ends (g.S.Source.faults c.args.source.now) in
+    rw (sym c.taken.ensures ∙ c.if-not-taken.true) (told.0, told.1, ends)
+
+pub returns-then-not-taken-clause-usage : goal.returns-then-not-taken-clause-usage
+returns-then-not-taken-clause-usage g c = (
+  λ e. let ends = rw e at c.finish.ensures.ends 0 in (cc, ends.write_faults),
+  λ p. c.finish.ensures.status p.1,
+)
+
+pub returns-then-not-taken-clause-whole : goal.returns-then-not-taken-clause-whole
+returns-then-not-taken-clause-whole g c =
+    λ e. let ends = rw e at c.finish.ensures.ends 0 in let due = ends.due in cc
+
+pub returns-then-not-taken-clause-read_fault : goal.returns-then-not-taken-clause-read_fault
+returns-then-not-taken-clause-read_fault g c = (
+  λ e. let ends = rw e at c.finish.ensures.ends 0 in let rises = ends.read_fault in omega arith,
+  λ rises. let none : ⊥ = omega arith in absurd none,
+)
+
+pub returns-in-Ok-clause-usage : goal.returns-in-Ok-clause-usage
+returns-in-Ok-clause-usage g c = (
+  λ e. let ends = rw e at c.finish-in-Ok.ensures.ends 0 in
+      let (input, _, same) = c.in-Ok.ensures.reply in
+      absurd (answer_to_input-not-usage input (ends.due ∙ c.status.ensures ∙ ap (λ r. r.status) same)),
+  λ p. let not_taken = p.0 in cc,
+)
+
+pub returns-in-Ok-clause-whole : goal.returns-in-Ok-clause-whole
+returns-in-Ok-clause-whole g c =
+    λ e. let ends = rw e at c.finish-in-Ok.ensures.ends 0 in
+    c.in-Ok.ensures.whole (sym (ends.due ∙ c.status.ensures))
+
+pub returns-in-Ok-clause-read_fault : goal.returns-in-Ok-clause-read_fault
+returns-in-Ok-clause-read_fault g c = (
+  λ e. let ends = rw e at c.finish-in-Ok.ensures.ends 0 in let rises = ends.read_fault in omega arith,
+  λ rises. let none : ⊥ = omega (arith, c.in-Ok.ensures.faults) in absurd none,
+)
+
+pub returns-in-Err-Fault-clause-answer : goal.returns-in-Err-Fault-clause-answer
+returns-in-Err-Fault-clause-answer g c =
+    let told = some_told (g.S.Source.left c.args.source.now) in
+    let fault = rw c.in-Err-Fault.field-0-is at c.in-Err-Fault.ensures.faults in
+    (told.0, told.1, record { read_fault = fault; write_faults = refl; held = refl })
+
+pub returns-in-Err-Memory-clause-answer : goal.returns-in-Err-Memory-clause-answer
+returns-in-Err-Memory-clause-answer g c =
+    let told = some_told (g.S.Source.left c.args.source.now) in
+    let faults = rw c.in-Err-Memory.field-0-is at c.in-Err-Memory.ensures.faults in
+    (told.0, told.1, record { read_faults = faults; write_faults = refl; held = refl })

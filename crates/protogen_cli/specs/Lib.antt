@@ -1,0 +1,5 @@
+pub mod Words
+pub mod Statuses
+pub mod Replies
+pub mod Ends
+pub mod Judging

@@ -1,0 +1,24 @@
+-- How a call ends.
+use Rattle.std.specs.Prelude.{ℕ}
+use Rattle.protogen_cli.specs.declared.status.Status.{Status}
+use Rattle.protogen_cli.specs.declared.status.Status.TheVariants.{Done, Text, Usage, ReadFault, WriteFault, Memory, TooLong}
+
+-- the exit status
+abbrev pub exit_code : Status → ℕ
+exit_code Done = 0
+exit_code (Text fault) = 1
+exit_code Usage = 2
+exit_code ReadFault = 3
+exit_code WriteFault = 4
+exit_code Memory = 5
+exit_code TooLong = 6
+
+-- the status is one that a reply has, and not one for its want
+abbrev pub IsReplied : Status → Type 0
+IsReplied Done = Unit {0}
+IsReplied (Text fault) = Unit {0}
+IsReplied Usage = Unit {0}
+IsReplied ReadFault = ⊥
+IsReplied WriteFault = ⊥
+IsReplied Memory = ⊥
+IsReplied TooLong = Unit {0}

@@ -1,0 +1,71 @@
+ghost use Rattle.std.specs.Prelude.{◌≡◌, ℕ, ◌-◌, ◌^◌, ◌<◌, ◌↔◌, ◌⊎◌, Some, List, false};
+ghost use Rattle.protogen_cli.specs.Words.{texts, is_taken};
+ghost use Rattle.protogen_cli.specs.Statuses.{IsReplied};
+ghost use Rattle.protogen_cli.specs.Replies.{Reply, answer};
+ghost use Rattle.protogen_cli.specs.Ends.{outside, Tells, IsReadToEnd, Ends};
+
+use crate::judge::{NoReport, judge};
+use crate::status::Status;
+use crate::words::taken;
+use pg_io::{Sink, Source, write_all};
+use std::alloc::Global;
+
+/// Does what the words ask, from the source to the sink.
+///
+/// `check` reads the source to its end, at most 1,048,576 bytes, and judges them as the text of a protocol. It writes
+/// one line: `ok`, or `line L rule R` for the first line L that breaks a rule and the first rule R that it breaks, or
+/// `too long`. At other words it reads nothing and writes `usage`. The whole line is made before any of it is written.
+///
+/// `ReadFault` and `WriteFault` come as soon as the source or the sink has failed, and `Memory` where there was none left
+/// for the input, for what is read from it or for the line.
+pub fn protogen<S: Source, K: Sink>(
+    alloc: Global,
+    words: &[String],
+    source: &mut S,
+    sink: &mut K,
+) -> Status
+    requires reads { S.faults source.old < 2 ^ 64 - 1 }
+    requires writes { K.faults sink.old < 2 ^ 64 - 1 }
+
+    ensures answer { (input : List ℕ) × Tells (S.left source.old) input
+        × Ends result (answer (texts words.now) input)
+        (outside (K.held sink.old) (S.faults source.old) (K.faults sink.old))
+        (outside (K.held sink.new) (S.faults source.new) (K.faults sink.new)) }
+    ensures complete { (input : List ℕ) → S.left source.old ≡ Some input
+        → S.faults source.new ≡ S.faults source.old → K.faults sink.new ≡ K.faults sink.old
+        → (result ≡ (answer (texts words.now) input).status) ⊎ (result ≡ Status.Memory) }
+
+    ensures usage { (result ≡ Status.Usage)
+        ↔ ((is_taken (texts words.now) ≡ false) × (K.faults sink.new ≡ K.faults sink.old)) }
+    ensures unread { is_taken (texts words.now) ≡ false → source.new ≡ source.old }
+    ensures whole { result ≡ Status.Done → IsReadToEnd (S.left source.old) (S.left source.new) }
+
+    ensures read_fault { (result ≡ Status.ReadFault) ↔ (S.faults source.old < S.faults source.new) }
+    ensures write_fault { (result ≡ Status.WriteFault) ↔ (K.faults sink.old < K.faults sink.new) }
+{
+    if !taken(words) {
+        return finish(sink, Status::Usage, b"usage\n");
+    }
+    match judge(alloc, source) {
+        Ok(report) => finish(sink, report.status(), report.bytes()),
+        Err(NoReport::Fault) => Status::ReadFault,
+        Err(NoReport::Memory) => Status::Memory,
+    }
+}
+
+// Writes the bytes, and answers the status if they could all be written.
+fn finish<K: Sink>(sink: &mut K, status: Status, bytes: &[u8]) -> Status
+    requires countable { K.faults sink.old < 2 ^ 64 - 1 }
+    requires replied { IsReplied status }
+
+    ensures ends { (faults : ℕ) → let due : Reply = record { status = status; bytes = bytes.now } in
+        Ends result due (outside (K.held sink.old) faults (K.faults sink.old))
+        (outside (K.held sink.new) faults (K.faults sink.new)) }
+    ensures fault { (result ≡ Status.WriteFault) ↔ (K.faults sink.old < K.faults sink.new) }
+    ensures status { K.faults sink.new ≡ K.faults sink.old → result ≡ status }
+{
+    match write_all(sink, bytes) {
+        Ok(()) => status,
+        Err(_) => Status::WriteFault,
+    }
+}

@@ -1,0 +1,40 @@
+ghost use Rattle.std.specs.Prelude.{◌≡◌};
+ghost use Rattle.protogen_cli.specs.Statuses.{exit_code};
+
+use pg_perm::Fault;
+
+/// How a call ended.
+#[derive(Clone, Copy, Debug, PartialEq, Eq)]
+pub enum Status {
+    /// The text breaks no rule.
+    Done,
+    /// The first line of the text that breaks a rule, and the first rule that it breaks.
+    Text(Fault),
+    /// The words are not those of a command.
+    Usage,
+    /// The input could not be read to its end. Nothing was written.
+    ReadFault,
+    /// The output could not be written to its end.
+    WriteFault,
+    /// Memory has run out. Nothing was written.
+    Memory,
+    /// The input has more than 1,048,576 bytes.
+    TooLong,
+}
+
+impl Status {
+    /// The exit status of the program, from 0 to 6.
+    pub fn code(&self) -> u8
+        ensures { result ≡ exit_code self.now }
+    {
+        match self {
+            Status::Done => 0,
+            Status::Text(_) => 1,
+            Status::Usage => 2,
+            Status::ReadFault => 3,
+            Status::WriteFault => 4,
+            Status::Memory => 5,
+            Status::TooLong => 6,
+        }
+    }
+}

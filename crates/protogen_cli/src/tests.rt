@@ -1,0 +1,45 @@
+use super::*;
+use pg_perm::{Fault, Rule};
+use std::test::Fail;
+
+#[test]
+fn check_alone_is_taken(rt: HostRuntime) -> Result<(), Fail> {
+    let alloc = rt.alloc();
+    for (words, wanted) in [
+        (["check"].as_slice(), true),
+        (&[], false),
+        (&[""], false),
+        (&["chek"], false),
+        (&["Check"], false),
+        (&["check "], false),
+        (&["check", "check"], false),
+        (&["check", ""], false),
+        (&["--help"], false),
+    ] {
+        let mut texts = Vec::new(alloc);
+        for word in words {
+            texts.push(String::from_str(alloc, word)?)?;
+        }
+        assert_eq!(rt; taken(&texts), wanted, "{words:?}");
+    }
+    Ok(())
+}
+
+#[test]
+fn each_status_has_its_code(rt: HostRuntime) {
+    let fault = Fault {
+        line: 5,
+        rule: Rule::F1,
+    };
+    for (status, wanted) in [
+        (Status::Done, 0),
+        (Status::Text(fault), 1),
+        (Status::Usage, 2),
+        (Status::ReadFault, 3),
+        (Status::WriteFault, 4),
+        (Status::Memory, 5),
+        (Status::TooLong, 6),
+    ] {
+        assert_eq!(rt; status.code(), wanted, "{status:?}");
+    }
+}
