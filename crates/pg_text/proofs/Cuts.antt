@@ -5,7 +5,7 @@ use Rattle.std.specs.Borrow.{Bor}
 use Rattle.std.specs.Option.{option_map}
 use Rattle.std.proofs.lemmas.List.Splits.{slice_split_first}
 use Rattle.std.proofs.lemmas.Bool.{ltb-true, ltb-false}
-use Rattle.pg_text.specs.Lines.{cut_at, parts_of_cut, words_left, words_of, first_rest}
+use Rattle.pg_text.specs.Lines.{cut_at, words_left, words_of, first_rest}
 
 -- where no element passes, the list is the one part
 split_missing : {X : Type 0} (p : X → Bool) (xs : List X) → length xs ≤ position_or_len p xs → slice_split p xs ≡ xs ∷ []
@@ -15,6 +15,11 @@ split_missing p (x ∷ xs) h =
       | true ↦ λ (g : length (x ∷ xs) ≤ 0). absurd (omega arith)
       | false ↦ λ (g : length (x ∷ xs) ≤ 1 + position_or_len p xs). ap (onto_first x) (split_missing p xs (omega arith))
     ]) h
+
+-- the parts from a cut on
+abbrev pub parts_of_cut : ℕ → List ℕ → Option (List ℕ × List ℕ) → List (List ℕ)
+parts_of_cut c bytes None = bytes ∷ []
+parts_of_cut c bytes (Some p) = p.0 ∷ slice_split (λ b. b == c) p.1
 
 -- cutting all is cutting once, and then the rest
 pub parts_cut : (c : ℕ) (bytes : List ℕ) → slice_split (λ b. b == c) bytes ≡ parts_of_cut c bytes (cut_at c bytes)

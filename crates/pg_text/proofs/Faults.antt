@@ -6,7 +6,7 @@ use Rattle.pg_perm.specs.declared.fault.Fault.{Fault}
 use Rattle.pg_perm.specs.declared.fault.Rule.{Rule}
 use Rattle.pg_perm.specs.declared.fault.Rule.TheVariants.{F6}
 use Rattle.pg_text.specs.Lines.{lines_of, words_of}
-use Rattle.pg_text.specs.FormFaults.{Above, nothing, breaks, after, ends, BreaksIn, IsLeast, IsFormFault, rule_rank}
+use Rattle.pg_text.specs.FormFaults.{Above, nothing, breaks, after, ends, BreaksIn, IsNoLater, IsFormFault, rule_rank}
 use Rattle.pg_text.specs.Texts.{judge, read_on, read_lines, place_behind, reading, drafted, IsText}
 use Rattle.pg_text.proofs.Options.{same_err, same_ok}
 use Rattle.pg_text.proofs.Judging.{IsFirst, IsClean, judge_first, judge_sound}
@@ -19,7 +19,7 @@ first_line_on above n (line ∷ lines) L R (inr b) = omega (arith, first_line_on
 
 -- f is broken, and is the first that is
 abbrev IsFirstIn : Above → ℕ → List (List ℕ) → Fault → Type 0
-IsFirstIn above n lines f = BreaksIn above n lines f.line f.rule × ((L : ℕ) (R : Rule) → BreaksIn above n lines L R → IsLeast f L R)
+IsFirstIn above n lines f = BreaksIn above n lines f.line f.rule × ((L : ℕ) (R : Rule) → BreaksIn above n lines L R → IsNoLater f L R)
 
 -- where no line is left, F6 is the first fault
 first_in_none : (above : Above) (n : ℕ) → IsFirstIn above n [] (record { line = n; rule = F6 })
@@ -30,7 +30,7 @@ first_here : (above : Above) (n : ℕ) (line : List ℕ) (lines : List (List ℕ
     → IsFirstIn above n (line ∷ lines) (record { line = n; rule = R })
 first_here above n line lines R p = (inl (refl, p.0), least)
   where
-    least : (L : ℕ) (Q : Rule) → BreaksIn above n (line ∷ lines) L Q → IsLeast (record { line = n; rule = R }) L Q
+    least : (L : ℕ) (Q : Rule) → BreaksIn above n (line ∷ lines) L Q → IsNoLater (record { line = n; rule = R }) L Q
     least L Q (inl b) = inr (sym b.0, p.1 Q b.1)
     least L Q (inr b) = inl (omega (arith, first_line_on (after above n line) (n + 1) lines L Q b.1))
 
@@ -39,7 +39,7 @@ first_behind : (above : Above) (n : ℕ) (line : List ℕ) (lines : List (List �
     → ends line ≡ false → IsFirstIn (after above n line) (n + 1) lines f → IsFirstIn above n (line ∷ lines) f
 first_behind above n line lines f sound goes_on p = (inr (ap not goes_on, p.0), least)
   where
-    least : (L : ℕ) (Q : Rule) → BreaksIn above n (line ∷ lines) L Q → IsLeast f L Q
+    least : (L : ℕ) (Q : Rule) → BreaksIn above n (line ∷ lines) L Q → IsNoLater f L Q
     least L Q (inl b) = absurd (cc (b.1, sound Q))
     least L Q (inr b) = p.1 L Q b.1
 

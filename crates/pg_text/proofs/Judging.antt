@@ -91,17 +91,19 @@ outcome_sound k false false (Some d) false old above e = (sym (same_ok _ above e
 -- a line in a form is judged by the answers to F2 to F5
 judged_as : (above : Above) (n : ℕ) (is_long : Bool) (l : Line)
     → judged above n is_long (Some l)
-    ≡ outcome (kind_of l) (is_out_of_order above.kind (kind_of l)) (is_taken above.draft l) (with_line above.draft n l) (is_long || is_full above.draft l)
-judged_as above n is_long l = at _ _ _ _ refl refl refl refl
+    ≡ outcome (kind_of l) (is_out_of_order n above.kind (kind_of l)) (is_taken above.draft l) (with_line above.draft n l) (is_long || is_full above.draft l)
+judged_as above n is_long l = at _ _ _ _ _ refl refl refl refl refl
   where
-    at : (order taken : Bool) (more : Option Draft) (over : Bool) → is_out_of_order above.kind (kind_of l) ≡ order → is_taken above.draft l ≡ taken
-        → with_line above.draft n l ≡ more → (is_long || is_full above.draft l) ≡ over
-        → judged above n is_long (Some l) ≡ outcome (kind_of l) order taken more over
-    at true taken more over a b c d = rw a refl
-    at false true more over a b c d = rw (a, b) refl
-    at false false None over a b c d = rw (a, b, c) refl
-    at false false (Some more) true a b c d = rw (a, b, c, d) refl
-    at false false (Some more) false a b c d = rw (a, b, c, d) refl
+    at : (order taken : Bool) (more : Option Draft) (long full : Bool) → is_out_of_order n above.kind (kind_of l) ≡ order → is_taken above.draft l ≡ taken
+        → with_line above.draft n l ≡ more → is_long ≡ long → is_full above.draft l ≡ full
+        → judged above n is_long (Some l) ≡ outcome (kind_of l) order taken more (long || full)
+    at true taken more long full a b c d e = rw a refl
+    at false true more long full a b c d e = rw (a, b) refl
+    at false false None long full a b c d e = rw (a, b, c) refl
+    at false false (Some more) true true a b c d e = rw (a, b, c, d, e) refl
+    at false false (Some more) true false a b c d e = rw (a, b, c, d, e) refl
+    at false false (Some more) false true a b c d e = rw (a, b, c, d, e) refl
+    at false false (Some more) false false a b c d e = rw (a, b, c, d, e) refl
 
 -- the rules that a line breaks, from whether it is long and from its form
 abbrev breaks_as : Above → ℕ → Bool → Option Line → Rule → Bool
@@ -109,7 +111,7 @@ breaks_as above n is_long None F1 = true
 breaks_as above n is_long None F5 = is_long || false
 breaks_as above n is_long None _ = false
 breaks_as above n is_long (Some l) R =
-    broken (is_out_of_order above.kind (kind_of l)) (is_taken above.draft l) (with_line above.draft n l) (is_long || is_full above.draft l) R
+    broken (is_out_of_order n above.kind (kind_of l)) (is_taken above.draft l) (with_line above.draft n l) (is_long || is_full above.draft l) R
 
 -- the rules that a line breaks are those that its length and its form break
 breaks_is : (above : Above) (n : ℕ) (ws : List (List ℕ)) (o : Option Line) → line_of ws ≡ o → (R : Rule)

@@ -11,12 +11,12 @@ use Rattle.pg_text.specs.declared.line.Line.{Line}
 use Rattle.pg_text.specs.declared.error.LineError.{LineError}
 use Rattle.pg_text.specs.declared.error.LineError.TheVariants as error
 use Rattle.pg_text.specs.Answers.{Judges, Reads, text_error}
-use Rattle.pg_text.specs.Kinds.{rank_of, kind_of}
+use Rattle.pg_text.specs.Kinds.{is_end, kind_of}
 use Rattle.pg_text.specs.Reading.{line_of}
-use Rattle.pg_text.specs.Lines.{words_of, lines_of, without_empty_last, first_line, line_of_cut, cut_at, parts_of_cut}
+use Rattle.pg_text.specs.Lines.{words_of, lines_of, without_empty_last, first_line, line_of_cut, cut_at}
 use Rattle.pg_text.specs.FormFaults.{Above, nothing, ends, is_out_of_order}
-use Rattle.pg_text.specs.Texts.{behind, behind_line, judge, judged, declared, with_kind, placed, read_lines, read_on, has_ended_by, reading}
-use Rattle.pg_text.proofs.Cuts.{parts_cut}
+use Rattle.pg_text.specs.Texts.{behind, behind_line, judge, judged, declared, with_kind, if_short, placed, read_lines, read_on, has_ended_by, reading}
+use Rattle.pg_text.proofs.Cuts.{parts_cut, parts_of_cut}
 use Rattle.pg_text.proofs.Options.{same_ok}
 
 -- the lines before were read, and rest is behind them
@@ -78,14 +78,16 @@ behind-more bytes line rest more before is_rest h =
 
 -- a line that was taken in is the end line where the lines have ended with it
 ended-ends : (above : Above) (n : ℕ) (is_long : Bool) (o : Option Line) (more : Above) → judged above n is_long o ≡ Ok more
-    → has_ended_by more ≡ option_map_or (λ l. nat_lt 8 (rank_of (kind_of l))) o false
+    → has_ended_by more ≡ option_map_or (λ l. is_end (kind_of l)) o false
 ended-ends above n is_long None more h = cc
-ended-ends above n is_long (Some l) more h = at (is_out_of_order above.kind (kind_of l)) (declared above.draft n l is_long) h
+ended-ends above n is_long (Some l) more h = at (is_out_of_order n above.kind (kind_of l)) is_long (declared above.draft n l) h
   where
-    at : (b : Bool) (r : Result Draft Rule) → cond b (Err F2) (with_kind (kind_of l) r) ≡ Ok more → has_ended_by more ≡ nat_lt 8 (rank_of (kind_of l))
-    at true r g = cc
-    at false (Err R) g = cc
-    at false (Ok d) g = ap has_ended_by (sym (same_ok _ _ g))
+    at : (b long : Bool) (r : Result Draft Rule) → cond b (Err F2) (if_short long (with_kind (kind_of l) r)) ≡ Ok more → has_ended_by more ≡ is_end (kind_of l)
+    at true long r g = cc
+    at false true (Err R) g = cc
+    at false true (Ok d) g = cc
+    at false false (Err R) g = cc
+    at false false (Ok d) g = ap has_ended_by (sym (same_ok _ _ g))
 
 -- what reading gives, by the next line
 by_line : (bytes rest line more : List ℕ) (before : ℕ) (above : Above) → IsReadSoFar bytes rest before above → Some (line, more) ≡ first_line rest

@@ -21,7 +21,8 @@ use Rattle.pg_text.specs.declared.line.CoreShape.{CoreShape}
 use Rattle.pg_text.specs.declared.line.CoreShape.TheVariants.{Hit, Ask, Leave}
 use Rattle.pg_text.specs.Lines.{first_rest}
 use Rattle.pg_text.specs.Forms.{role_word, perm_word, request_word, event_word, shape_words, spelling, IsShapeOf, IsWellNamed}
-use Rattle.pg_text.specs.Pairs.{are_pairs}
+use Rattle.std.specs.List.{list_all}
+use Rattle.pg_text.specs.Pairs.{are_pairs, pairs_in, words_in, is_named_pair}
 use Rattle.pg_text.specs.Reading.{role_of, perm_of, request_of, event_of, name_at, state_at, ended, protocol_line, clean_of}
 use Rattle.pg_text.specs.Reading.{cache_line, request_line, reply_line, asking_shape, leaving_shape, shape_of, core_line, end_line, line_after, line_of}
 use Rattle.pg_text.proofs.Options.{then_some, told, same_word, nothing_found}
@@ -228,6 +229,22 @@ reply_line_again name h = rw (name_again name _ h) refl
 abbrev IsShape : Event → List (List ℕ) → CoreShape → Type 0
 IsShape event ws s = (ws ≡ shape_words s) × IsShapeOf event s
 
+-- words that are pairs are those of the pairs in them, which are named
+pairs_found : (ws : List (List ℕ)) → are_pairs ws ≡ true → (ws ≡ words_in (pairs_in ws)) × IsTrue (list_all is_named_pair (pairs_in ws))
+pairs_found [] h = (refl, refl)
+pairs_found (w ∷ []) h = absurd cc
+pairs_found (reply ∷ fin ∷ more) h =
+    let b = both (is_name reply && is_state_name fin) (are_pairs more) h in
+    let p = pairs_found more b.1 in
+    (ap (λ (ws : List (List ℕ)). reply ∷ fin ∷ ws) p.0, and_from (is_name reply && is_state_name fin) _ b.0 p.1)
+
+-- the words of pairs are pairs where these are named, and these are the pairs in them
+pairs_again : (ps : List (List ℕ × List ℕ)) → (are_pairs (words_in ps) ≡ list_all is_named_pair ps) × (pairs_in (words_in ps) ≡ ps)
+pairs_again [] = (refl, refl)
+pairs_again (p ∷ ps) =
+    let q = pairs_again ps in
+    (ap (λ (b : Bool). (is_name p.0 && is_state_name p.1) && b) q.0, ap (λ (qs : List (List ℕ × List ℕ)). p ∷ qs) q.1)
+
 -- a shape that is read behind a load is spelled by its words, and is one of a load
 asking_found : (ws : List (List ℕ)) (s : CoreShape) → asking_shape ws ≡ Some s → IsShape Load ws s
 asking_found [] s e = absurd cc
@@ -239,9 +256,10 @@ asking_found (w ∷ next ∷ []) s e =
     (λ h g. let t = cond_some (is_state_name next) (Hit (Some next)) s g in
     subst (IsShape Load (w ∷ next ∷ [])) t.1 (ap (λ (v : List ℕ). v ∷ next ∷ []) h, t.0)) (nothing_found s) e
 asking_found (w ∷ reply ∷ fin ∷ more) s e =
-    let t = cond_some (is_name w && are_pairs (reply ∷ fin ∷ more)) (Ask w (reply ∷ fin ∷ more)) s e in
+    let t = cond_some (is_name w && are_pairs (reply ∷ fin ∷ more)) (Ask w ((reply, fin) ∷ pairs_in more)) s e in
     let b = both (is_name w) (are_pairs (reply ∷ fin ∷ more)) t.0 in
-    subst (IsShape Load (w ∷ reply ∷ fin ∷ more)) t.1 (refl, (b.0, b.1, λ h. cc))
+    let p = pairs_found (reply ∷ fin ∷ more) b.1 in
+    subst (IsShape Load (w ∷ reply ∷ fin ∷ more)) t.1 (ap (λ (ws : List (List ℕ)). w ∷ ws) p.0, (b.0, p.1, λ h. cc))
 
 -- a store takes the shapes that a load takes
 store_as_load : (s : CoreShape) → IsShapeOf Load s → IsShapeOf Store s
@@ -269,8 +287,9 @@ asking_again : (s : CoreShape) → IsShapeOf Load s → asking_shape (shape_word
 asking_again (Hit None) h = refl
 asking_again (Hit (Some next)) h = rw h refl
 asking_again (Ask request []) h = absurd (h.2 refl)
-asking_again (Ask request (w ∷ [])) h = absurd (cc h.1)
-asking_again (Ask request (reply ∷ fin ∷ more)) h = rw (and_from (is_name request) (are_pairs (reply ∷ fin ∷ more)) h.0 h.1) refl
+asking_again (Ask request (p ∷ ps)) h =
+    let again = pairs_again (p ∷ ps) in
+    rw (and_from (is_name request) (are_pairs (words_in (p ∷ ps))) h.0 (again.0 ∙ h.1)) (ap (λ (qs : List (List ℕ × List ℕ)). Some (Ask request qs)) again.1)
 asking_again (Leave request) h = absurd h
 
 -- the words of an evict's shape are read as that shape

@@ -8,7 +8,7 @@ use Rattle.pg_perm.specs.declared.fault.Rule.TheVariants.{F1, F2, F3, F4, F5, F6
 use Rattle.pg_text.specs.declared.error.TextError.{TextError}
 use Rattle.pg_text.specs.declared.error.TextError.TheVariants as error
 use Rattle.pg_text.specs.Answers.{Reads}
-use Rattle.pg_text.specs.FormFaults.{IsLeast, IsFormFault, rule_rank}
+use Rattle.pg_text.specs.FormFaults.{IsNoLater, IsFormFault, rule_rank}
 use Rattle.pg_text.specs.Texts.{reading, IsText}
 use Rattle.pg_text.proofs.Faults.{fault, text}
 
@@ -32,7 +32,7 @@ rule_at-rank F5 = refl
 rule_at-rank F6 = refl
 
 -- each of two faults that come before the other is the other
-same_fault : (f g : Fault) → IsLeast f g.line g.rule → IsLeast g f.line f.rule → f ≡ g
+same_fault : (f g : Fault) → IsNoLater f g.line g.rule → IsNoLater g f.line f.rule → f ≡ g
 same_fault f g (inl before) (inl behind) = absurd (omega arith)
 same_fault f g (inl before) (inr behind) = absurd (omega (arith, behind.0))
 same_fault f g (inr before) (inl behind) = absurd (omega (arith, before.0))

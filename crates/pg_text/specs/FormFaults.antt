@@ -1,5 +1,5 @@
 -- The rules of the form of a text, and its first fault.
-use Rattle.std.specs.Prelude.{ℕ, ◌≡◌, ◌<◌, ◌≤◌, ◌+◌, ◌⊎◌, Bool, false, not, ◌||◌, nat_lt, List, [], ◌∷◌, length, Option, Some, None, is_none, IsTrue, unwrap_or, codes}
+use Rattle.std.specs.Prelude.{ℕ, ◌≡◌, ◌<◌, ◌≤◌, ◌+◌, ◌⊎◌, Bool, false, not, ◌||◌, ◌==◌, nat_lt, List, [], ◌∷◌, length, Option, Some, None, is_none, IsTrue, unwrap_or, codes, if◌then◌else◌}
 use Rattle.std.specs.Option.{option_map_or}
 use Rattle.pg_perm.specs.declared.draft.Draft.{Draft}
 use Rattle.pg_perm.specs.declared.fault.Fault.{Fault}
@@ -8,11 +8,11 @@ use Rattle.pg_perm.specs.declared.fault.Rule.TheVariants.{F1, F2, F3, F4, F5, F6
 use Rattle.pg_text.specs.declared.line.Kind.{Kind}
 use Rattle.pg_text.specs.declared.line.Line.{Line}
 use Rattle.pg_text.specs.Lines.{lines_of, words_of}
-use Rattle.pg_text.specs.Kinds.{rank_of, kind_of}
+use Rattle.pg_text.specs.Kinds.{rank_of, is_protocol, is_end, kind_of}
 use Rattle.pg_text.specs.Reading.{line_of}
 use Rattle.pg_text.specs.Numbering.{with_line, is_taken, is_full}
 
--- the lines above a line: the kind of the one just above, and what they declare
+-- the lines above a line: the kind of the one just above, where it is in a form, and what they declare
 pub record Above : Type 0 where
   pub kind : Option Kind
   pub draft : Draft
@@ -25,26 +25,22 @@ no_draft = record { line = 0; name = codes "none"; caches = []; dirs = []; messa
 abbrev pub nothing : Above
 nothing = record { kind = None; draft = no_draft }
 
-abbrev pub is_protocol : Kind → Bool
-is_protocol k = nat_lt (rank_of k) 1
-
 -- a first line that is no protocol line, a later one that is, or a kind that comes before the kind just above
-abbrev pub is_out_of_order : Option Kind → Kind → Bool
-is_out_of_order None k = not (is_protocol k)
-is_out_of_order (Some above) k = is_protocol k || nat_lt (rank_of k) (rank_of above)
+abbrev pub is_out_of_order : ℕ → Option Kind → Kind → Bool
+is_out_of_order n above k = if n == 1 then not (is_protocol k) else is_protocol k || option_map_or (λ a. nat_lt (rank_of k) (rank_of a)) above false
 
 -- whether the words of line n break a rule, below these lines; a line in no form has no kind, and neither declares nor uses a name
 abbrev pub breaks : Above → ℕ → List (List ℕ) → Rule → Bool
 breaks above n ws F1 = is_none (line_of ws)
-breaks above n ws F2 = option_map_or (λ l. is_out_of_order above.kind (kind_of l)) (line_of ws) false
+breaks above n ws F2 = option_map_or (λ l. is_out_of_order n above.kind (kind_of l)) (line_of ws) false
 breaks above n ws F3 = option_map_or (λ l. is_taken above.draft l) (line_of ws) false
 breaks above n ws F4 = option_map_or (λ l. is_none (with_line above.draft n l)) (line_of ws) false
 breaks above n ws F5 = nat_lt 80 (length ws) || option_map_or (λ l. is_full above.draft l) (line_of ws) false
 breaks above n ws F6 = false
 
--- the lines above, and below them line n
+-- the lines above, and below them line n; a line that uses a name which is not declared declares nothing and isn't counted
 abbrev pub below : Above → ℕ → Option Line → Above
-below above n None = above
+below above n None = record above { kind = None }
 below above n (Some l) = record { kind = Some (kind_of l); draft = unwrap_or (with_line above.draft n l) above.draft }
 
 abbrev pub after : Above → ℕ → List ℕ → Above
@@ -52,7 +48,7 @@ after above n line = below above n (line_of (words_of line))
 
 -- whether a line is the end line
 abbrev pub ends : List ℕ → Bool
-ends line = option_map_or (λ l. nat_lt 8 (rank_of (kind_of l))) (line_of (words_of line)) false
+ends line = option_map_or (λ l. is_end (kind_of l)) (line_of (words_of line)) false
 
 -- line L breaks rule R, where these lines are numbered from n on and stand below others. No line behind the first end line is judged, and
 -- F6 is broken behind the last line where there is none
@@ -74,11 +70,11 @@ rule_rank F4 = 4
 rule_rank F5 = 5
 rule_rank F6 = 6
 
--- a fault comes before each broken line and rule, or is it: the least line, then the least rule
-abbrev pub IsLeast : Fault → ℕ → Rule → Type 0
-IsLeast f L R = (f.line < L) ⊎ ((f.line ≡ L) × (rule_rank f.rule ≤ rule_rank R))
+-- a fault is no later than a line and a rule: by the line, and then by the rule
+abbrev pub IsNoLater : Fault → ℕ → Rule → Type 0
+IsNoLater f L R = (f.line < L) ⊎ ((f.line ≡ L) × (rule_rank f.rule ≤ rule_rank R))
 
 -- the first fault of a text
 pub record IsFormFault (bytes : List ℕ) (f : Fault) : Type 0 where
   pub broken : Breaks bytes f.line f.rule
-  pub least : (L : ℕ) (R : Rule) → Breaks bytes L R → IsLeast f L R
+  pub least : (L : ℕ) (R : Rule) → Breaks bytes L R → IsNoLater f L R

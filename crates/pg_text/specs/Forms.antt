@@ -9,7 +9,8 @@ use Rattle.pg_perm.specs.declared.kinds.ReqClass.TheVariants as asks
 use Rattle.pg_perm.specs.declared.kinds.Event.{Event}
 use Rattle.pg_perm.specs.declared.kinds.Event.TheVariants.{Load, Store, Evict}
 use Rattle.pg_perm.specs.declared.draft.MsgClass.TheVariants.{Request, Forward, Reply}
-use Rattle.pg_text.specs.Pairs.{are_pairs}
+use Rattle.std.specs.List.{list_all}
+use Rattle.pg_text.specs.Pairs.{words_in, is_named_pair}
 use Rattle.pg_text.specs.declared.line.Line.{Line}
 use Rattle.pg_text.specs.declared.line.Line.TheVariants.{Protocol, Cache, Message, Core, End}
 use Rattle.pg_text.specs.declared.line.CoreShape.{CoreShape}
@@ -40,7 +41,7 @@ event_word Evict = codes "evict"
 abbrev pub shape_words : CoreShape → List (List ℕ)
 shape_words (Hit None) = codes "hit" ∷ []
 shape_words (Hit (Some next)) = codes "hit" ∷ next ∷ []
-shape_words (Ask request pairs) = request ∷ pairs
+shape_words (Ask request pairs) = request ∷ words_in pairs
 shape_words (Leave request) = request ∷ []
 
 -- the words of a line
@@ -60,7 +61,7 @@ IsShapeOf Evict (Leave request) = IsTrue (is_name request)
 IsShapeOf Evict (Hit next) = ⊥
 IsShapeOf Evict (Ask request pairs) = ⊥
 IsShapeOf event (Hit next) = IfSome next (λ w. IsTrue (is_state_name w))
-IsShapeOf event (Ask request pairs) = IsTrue (is_name request) × IsTrue (are_pairs pairs) × (pairs ≢ [])
+IsShapeOf event (Ask request pairs) = IsTrue (is_name request) × IsTrue (list_all is_named_pair pairs) × (pairs ≢ [])
 IsShapeOf event (Leave request) = ⊥
 
 -- each of its words is a name of its kind, and there is such a line

@@ -1,4 +1,4 @@
-use Rattle.std.specs.Prelude.{ℕ}
+use Rattle.std.specs.Prelude.{ℕ, Bool, true, false}
 use Rattle.pg_perm.specs.declared.draft.MsgClass.TheVariants as class
 use Rattle.pg_text.specs.declared.line.Kind.{Kind}
 use Rattle.pg_text.specs.declared.line.Kind.TheVariants.{Protocol, Cache, Dir, Request, Forward, Reply, Core, Take, Row, End}
@@ -17,6 +17,14 @@ rank_of Core = 6
 rank_of Take = 7
 rank_of Row = 8
 rank_of End = 9
+
+abbrev pub is_protocol : Kind → Bool
+is_protocol Protocol = true
+is_protocol _ = false
+
+abbrev pub is_end : Kind → Bool
+is_end End = true
+is_end _ = false
 
 abbrev pub kind_of : Line → Kind
 kind_of (line.Protocol name) = Protocol

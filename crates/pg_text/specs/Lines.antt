@@ -31,11 +31,6 @@ first_rest (x ∷ xs) = Some (x, xs)
 abbrev pub cut_at : ℕ → List ℕ → Option (List ℕ × List ℕ)
 cut_at c bytes = option_map (λ i. (take i bytes, drop (i + 1) bytes)) (position (λ b. b == c) bytes)
 
--- the parts from a cut on
-abbrev pub parts_of_cut : ℕ → List ℕ → Option (List ℕ × List ℕ) → List (List ℕ)
-parts_of_cut c bytes None = bytes ∷ []
-parts_of_cut c bytes (Some p) = p.0 ∷ slice_split (λ b. b == c) p.1
-
 -- the line before a cut, or all of it
 abbrev pub line_of_cut : List ℕ → Option (List ℕ × List ℕ) → Option (List ℕ × List ℕ)
 line_of_cut bytes None = Some (bytes, [])

@@ -1,5 +1,5 @@
 -- What the lines of a text declare, and the numbers of what they use.
-use Rattle.std.specs.Prelude.{ℕ, ◌+◌, Bool, true, false, ◌||◌, nat_le, List, [], ◌∷◌, ◌++◌, length, codes, slice_get, Option, Some, None, is_some, if◌then◌else◌, bytes_eq}
+use Rattle.std.specs.Prelude.{ℕ, Bool, true, false, ◌||◌, nat_le, List, [], ◌∷◌, ◌++◌, length, codes, slice_get, Option, Some, None, is_some, if◌then◌else◌, bytes_eq}
 use Rattle.std.specs.List.{list_any}
 use Rattle.std.specs.Option.{option_map}
 use Rattle.pg_names.specs.Number.{number_of}
@@ -15,7 +15,7 @@ use Rattle.pg_text.specs.declared.line.Line.{Line}
 use Rattle.pg_text.specs.declared.line.Line.TheVariants.{Protocol, Cache, Message, Core, End}
 use Rattle.pg_text.specs.declared.line.CoreShape.{CoreShape}
 use Rattle.pg_text.specs.declared.line.CoreShape.TheVariants.{Hit, Ask, Leave}
-use Rattle.pg_text.specs.Names.{cache_names, message_names, taken_names}
+use Rattle.pg_text.specs.Names.{cache_names, message_names, taken_names, rule_lines}
 use Rattle.pg_text.specs.Reading.{◌>>=◌}
 
 abbrev pub is_request : MsgClass → Bool
@@ -51,12 +51,11 @@ pair_of d r f = do
   Some (record { reply = reply; fin = fin })
 
 -- the replies and final states of a core line
-abbrev pub pairs_of : Draft → List (List ℕ) → Option (List Pair)
+abbrev pub pairs_of : Draft → List (List ℕ × List ℕ) → Option (List Pair)
 pairs_of d [] = Some []
-pairs_of d (w ∷ []) = None
-pairs_of d (r ∷ f ∷ ws) = do
-  pair ← pair_of d r f
-  more ← pairs_of d ws
+pairs_of d (p ∷ ps) = do
+  pair ← pair_of d p.0 p.1
+  more ← pairs_of d ps
   Some (pair ∷ more)
 
 -- what stands behind the event of a core line, in numbers
@@ -65,9 +64,9 @@ core_form d (Hit None) = Some (form.Hit None)
 core_form d (Hit (Some w)) = do
   next ← cache_number d w
   Some (form.Hit (Some next))
-core_form d (Ask w ws) = do
+core_form d (Ask w ps) = do
   request ← message_number is_request d w
-  pairs ← pairs_of d ws
+  pairs ← pairs_of d ps
   Some (form.Ask request pairs)
 core_form d (Leave w) = do
   request ← message_number is_request d w
@@ -102,5 +101,5 @@ abbrev pub is_full : Draft → Line → Bool
 is_full d (Protocol name) = false
 is_full d (Cache name role perm clean) = nat_le 16 (length d.caches)
 is_full d (Message name class) = nat_le 32 (length d.messages)
-is_full d (Core state event shape) = nat_le 512 (length d.cores + length d.takes + length d.rows)
+is_full d (Core state event shape) = nat_le 512 (rule_lines d)
 is_full d End = false

@@ -15,7 +15,7 @@ use Rattle.pg_text.specs.declared.line.Line.TheVariants.{Protocol, Cache, Messag
 use Rattle.pg_text.specs.declared.line.CoreShape.{CoreShape}
 use Rattle.pg_text.specs.declared.line.CoreShape.TheVariants.{Hit, Ask, Leave}
 use Rattle.pg_text.specs.Lines.{first_rest}
-use Rattle.pg_text.specs.Pairs.{are_pairs}
+use Rattle.pg_text.specs.Pairs.{are_pairs, pairs_in}
 
 -- what the value of an option leads to
 infixl 10 ◌>>=◌
@@ -109,7 +109,7 @@ hit_shape w (Some next) = if bytes_eq w (codes "hit") then (if is_state_name nex
 
 -- a request, with replies and final states
 abbrev pub ask_shape : List ℕ → List (List ℕ) → Option CoreShape
-ask_shape w pairs = if is_name w && are_pairs pairs then Some (Ask w pairs) else None
+ask_shape w ws = if is_name w && are_pairs ws then Some (Ask w (pairs_in ws)) else None
 
 -- what stands behind `load` or `store`
 abbrev pub asking_shape : List (List ℕ) → Option CoreShape

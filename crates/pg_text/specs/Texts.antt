@@ -8,7 +8,7 @@ use Rattle.pg_perm.specs.declared.fault.Rule.TheVariants.{F1, F2, F3, F4, F5, F6
 use Rattle.pg_text.specs.declared.line.Kind.{Kind}
 use Rattle.pg_text.specs.declared.line.Line.{Line}
 use Rattle.pg_text.specs.Lines.{lines_of, words_of, first_line}
-use Rattle.pg_text.specs.Kinds.{kind_of, rank_of}
+use Rattle.pg_text.specs.Kinds.{kind_of, is_end}
 use Rattle.pg_text.specs.Reading.{line_of}
 use Rattle.pg_text.specs.Numbering.{with_line, is_taken, is_full}
 use Rattle.pg_text.specs.FormFaults.{Above, nothing, is_out_of_order, ends, after, Breaks}
@@ -23,8 +23,8 @@ behind zero bytes = bytes
 behind (suc n) bytes = behind_line (behind n bytes)
 
 -- the draft with line n, or the first of the rules F3 to F5 that the line breaks
-abbrev pub declared : Draft → ℕ → Line → Bool → Result Draft Rule
-declared d n l is_long = if is_taken d l then Err F3 else within (with_line d n l) (is_long || is_full d l)
+abbrev pub declared : Draft → ℕ → Line → Result Draft Rule
+declared d n l = if is_taken d l then Err F3 else within (with_line d n l) (is_full d l)
   where
     within : Option Draft → Bool → Result Draft Rule
     within None is_over = Err F4
@@ -35,17 +35,24 @@ abbrev pub with_kind : Kind → Result Draft Rule → Result Above Rule
 with_kind k (Ok d) = Ok (record { kind = Some k; draft = d })
 with_kind k (Err R) = Err R
 
+-- a line that is long breaks F5, where it breaks no rule before that
+abbrev pub if_short : Bool → Result Above Rule → Result Above Rule
+if_short true (Ok above) = Err F5
+if_short false (Ok above) = Ok above
+if_short is_long (Err R) = Err R
+
 -- the lines with line n below them, or the first rule that it breaks
 abbrev pub judged : Above → ℕ → Bool → Option Line → Result Above Rule
 judged above n is_long None = Err F1
-judged above n is_long (Some l) = if is_out_of_order above.kind (kind_of l) then Err F2 else with_kind (kind_of l) (declared above.draft n l is_long)
+judged above n is_long (Some l) =
+    if is_out_of_order n above.kind (kind_of l) then Err F2 else if_short is_long (with_kind (kind_of l) (declared above.draft n l))
 
 abbrev pub judge : Above → ℕ → List ℕ → Result Above Rule
 judge above n line = judged above n (nat_lt 80 (length (words_of line))) (line_of (words_of line))
 
 -- whether the last line is the end line
 abbrev pub has_ended_by : Above → Bool
-has_ended_by above = option_map_or (λ k. nat_lt 8 (rank_of k)) above.kind false
+has_ended_by above = option_map_or is_end above.kind false
 
 -- what reading gives once line n was judged
 abbrev pub read_on : ℕ → Bool → Result Above Rule → (Above → Result (Draft × ℕ) Fault) → Result (Draft × ℕ) Fault

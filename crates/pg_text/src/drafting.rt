@@ -1,7 +1,7 @@
-ghost use Rattle.std.specs.Prelude.{◌≡◌, ◌+◌, IfOk, length, nat_le, bytes_eq};
+ghost use Rattle.std.specs.Prelude.{◌≡◌, IfOk, bytes_eq};
 ghost use Rattle.std.specs.List.{list_any};
 ghost use Rattle.pg_text.specs.Answers.{Judges};
-ghost use Rattle.pg_text.specs.Names.{taken_names};
+ghost use Rattle.pg_text.specs.Names.{taken_names, rule_lines};
 ghost use Rattle.pg_text.specs.Texts.{declared};
 ghost use Rattle.pg_text.specs.FormFaults.{no_draft};
 ghost use Rattle.pg_text.specs.Numbering as draft;
@@ -24,7 +24,7 @@ const CACHE_LIMIT: usize = 16;
 const MESSAGE_LIMIT: usize = 32;
 
 /// The most core, take and row lines together.
-const ROW_LIMIT: u64 = 512;
+const RULE_LIMIT: usize = 512;
 
 /// Whether no message may have this name.
 fn is_taken_name(name: &[u8]) -> bool
@@ -159,12 +159,9 @@ impl Drafting {
         }
     }
 
-    fn with_protocol(self, number: u32, name: Word, is_long: bool) -> Result<Drafting, LineError>
-        ensures { Judges result (declared self number (Line.Protocol name) is_long) }
+    fn with_protocol(self, number: u32, name: Word) -> Result<Drafting, LineError>
+        ensures { Judges result (declared self number (Line.Protocol name)) }
     {
-        if is_long {
-            return Err(LineError::Breaks(Rule::F5));
-        }
         let Drafting {
             mut draft,
             caches,
@@ -179,13 +176,13 @@ impl Drafting {
         })
     }
 
-    fn with_cache(self, cache: CacheLine, is_long: bool) -> Result<Drafting, LineError>
-        ensures { Judges result (declared self cache.line (Line.Cache cache.name cache.role cache.perm cache.clean) is_long) }
+    fn with_cache(self, cache: CacheLine) -> Result<Drafting, LineError>
+        ensures { Judges result (declared self cache.line (Line.Cache cache.name cache.role cache.perm cache.clean)) }
     {
         if self.caches.find(cache.name.as_str()).is_some() {
             return Err(LineError::Breaks(Rule::F3));
         }
-        if is_long || self.draft.caches.len() >= CACHE_LIMIT {
+        if self.draft.caches.len() >= CACHE_LIMIT {
             return Err(LineError::Breaks(Rule::F5));
         }
         let Drafting {
@@ -202,15 +199,15 @@ impl Drafting {
         })
     }
 
-    fn with_message(self, message: MsgLine, is_long: bool) -> Result<Drafting, LineError>
-        ensures { Judges result (declared self message.line (Line.Message message.name message.class) is_long) }
+    fn with_message(self, message: MsgLine) -> Result<Drafting, LineError>
+        ensures { Judges result (declared self message.line (Line.Message message.name message.class)) }
     {
         if is_taken_name(message.name.bytes())
             || self.messages.find(message.name.as_str()).is_some()
         {
             return Err(LineError::Breaks(Rule::F3));
         }
-        if is_long || self.draft.messages.len() >= MESSAGE_LIMIT {
+        if self.draft.messages.len() >= MESSAGE_LIMIT {
             return Err(LineError::Breaks(Rule::F5));
         }
         let Drafting {
@@ -235,9 +232,8 @@ impl Drafting {
         name: Word,
         event: Event,
         shape: CoreShape,
-        is_long: bool,
     ) -> Result<Drafting, LineError>
-        ensures { Judges result (declared self number (Line.Core name event shape.entry) is_long) }
+        ensures { Judges result (declared self number (Line.Core name event shape.entry)) }
     {
         let Some(state) = self.cache_number(&name) else {
             return Err(LineError::Breaks(Rule::F4));
@@ -245,7 +241,7 @@ impl Drafting {
         let Some(form) = self.core_form(alloc, &shape)? else {
             return Err(LineError::Breaks(Rule::F4));
         };
-        if is_long || self.has_all_rows() {
+        if self.rule_lines() >= RULE_LIMIT {
             return Err(LineError::Breaks(Rule::F5));
         }
         let Drafting {
@@ -266,31 +262,24 @@ impl Drafting {
         })
     }
 
-    /// Whether there are as many core, take and row lines as there may be.
-    fn has_all_rows(&self) -> bool
-        ensures { result ≡ nat_le 512 (length self.now.cores + length self.now.takes + length self.now.rows) }
+    /// How many core, take and row lines there are.
+    fn rule_lines(&self) -> usize
+        ensures { result ≡ rule_lines self.now }
     {
-        let cores = self.draft.cores.len() as u64;
-        let takes = self.draft.takes.len() as u64;
-        let rows = self.draft.rows.len() as u64;
-        cores >= ROW_LIMIT
-            || takes >= ROW_LIMIT
-            || rows >= ROW_LIMIT
-            || cores + takes + rows >= ROW_LIMIT
+        self.draft.cores.len() + self.draft.takes.len() + self.draft.rows.len()
     }
 
-    /// Takes in line `number`, or says which of the rules F3 to F5 it breaks first. A line `is_long` that has more words than any may.
+    /// Takes in line `number`, or says which of the rules F3 to F5 it breaks first, its number of words aside.
     pub fn with_line(
         self,
         alloc: Global,
         number: u32,
         line: Line,
-        is_long: bool,
     ) -> Result<Drafting, LineError>
-        ensures { Judges result (declared self number line.entry is_long) }
+        ensures { Judges result (declared self number line.entry) }
     {
         match line {
-            Line::Protocol { name } => self.with_protocol(number, name, is_long),
+            Line::Protocol { name } => self.with_protocol(number, name),
             Line::Cache {
                 name,
                 role,
@@ -304,7 +293,6 @@ impl Drafting {
                     perm,
                     clean,
                 },
-                is_long,
             ),
             Line::Message { name, class } => self.with_message(
                 MsgLine {
@@ -312,20 +300,13 @@ impl Drafting {
                     name,
                     class,
                 },
-                is_long,
             ),
             Line::Core {
                 state,
                 event,
                 shape,
-            } => self.with_core(alloc, number, state, event, shape, is_long),
-            Line::End => {
-                if is_long {
-                    Err(LineError::Breaks(Rule::F5))
-                } else {
-                    Ok(self)
-                }
-            }
+            } => self.with_core(alloc, number, state, event, shape),
+            Line::End => Ok(self),
         }
     }
 

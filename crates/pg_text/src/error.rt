@@ -24,10 +24,12 @@ impl From<AllocError> for TextError {
 }
 
 /// Why a line could not be taken in.
-#[derive(Debug, Drop)]
+#[derive(Debug, Drop, Error)]
 pub enum LineError {
     /// The first rule that it breaks.
+    #[error("it breaks {}", .0.name())]
     Breaks(Rule),
+    #[error("out of memory")]
     Memory,
 }
 

@@ -1,5 +1,5 @@
 ghost use Rattle.std.specs.Prelude.{◌≡◌};
-ghost use Rattle.pg_text.specs.Kinds.{kind_of, rank_of};
+ghost use Rattle.pg_text.specs.Kinds.{kind_of, rank_of, is_protocol, is_end};
 
 use crate::pairs::NamePairs;
 use pg_perm::{Event, MsgClass, Perm, Role, Word};
@@ -55,6 +55,18 @@ pub enum Kind {
 }
 
 impl Kind {
+    pub fn is_protocol(self) -> bool
+        ensures { result ≡ is_protocol self }
+    {
+        matches!(self, Kind::Protocol)
+    }
+
+    pub fn is_end(self) -> bool
+        ensures { result ≡ is_end self }
+    {
+        matches!(self, Kind::End)
+    }
+
     /// How many kinds stand before this one.
     pub fn rank(self) -> u8
         ensures { result ≡ rank_of self }

@@ -1,12 +1,11 @@
-ghost use Rattle.std.specs.Prelude.{◌≡◌, [], IsTrue, IfNone};
-ghost use Rattle.pg_text.specs.Pairs.{are_pairs};
-ghost use Rattle.pg_text.specs.Pairs.{first_pair};
+ghost use Rattle.std.specs.Prelude.{◌≡◌, IsTrue};
+ghost use Rattle.pg_text.specs.Pairs.{are_pairs, pairs_in, first_pair};
 
 use crate::words::Words;
 use pg_perm::Word;
 use std::marker::Model;
 
-/// The replies and final states of a core line that are still to be read, in turn. Contracts see the list of their words.
+/// The replies and final states of a core line that are still to be read, in turn. Contracts see the list of pairs of their names.
 #[derive(Debug, Drop)]
 pub struct NamePairs<'a> {
     words: Words<'a>,
@@ -14,11 +13,11 @@ pub struct NamePairs<'a> {
 
 impl<'a> Model for NamePairs<'a> {
     ghost use Rattle.std.specs.Prelude.{List, ℕ, IsTrue};
-    ghost use Rattle.pg_text.specs.Pairs.{are_pairs};
+    ghost use Rattle.pg_text.specs.Pairs.{are_pairs, pairs_in};
 
-    ghost Value = { List (List ℕ) };
+    ghost Value = { List (List ℕ × List ℕ) };
 
-    ghost view = { λ p. p.words };
+    ghost view = { λ p. pairs_in p.words };
 
     ghost invariant = { λ p. IsTrue (are_pairs p.words) };
 }
@@ -26,7 +25,7 @@ impl<'a> Model for NamePairs<'a> {
 impl<'a> NamePairs<'a> {
     pub fn new(words: Words<'a>) -> NamePairs<'a>
         requires { IsTrue (are_pairs words) }
-        ensures { result ≡ words.entry }
+        ensures { result ≡ pairs_in words.entry }
     {
         NamePairs { words }
     }
@@ -42,8 +41,7 @@ impl<'a> NamePairs<'a> {
 
     /// The next reply, its final state, and the pairs after them.
     pub fn first(&self) -> Option<(Word, Word, NamePairs<'a>)>
-        ensures first { result ≡ first_pair self.now }
-        ensures none { IfNone result (self.now ≡ []) }
+        ensures { result ≡ first_pair self.now }
     {
         let (reply, rest) = self.words.first()?;
         let Some((fin, rest)) = rest.first() else {

@@ -44,12 +44,16 @@ fn is_long(words: &Words) -> bool
     left.first().is_some()
 }
 
-fn is_out_of_order(above: Option<Kind>, kind: Kind) -> bool
-    ensures { result ≡ is_out_of_order_of above kind }
+/// Whether line `number` may not be of this kind, below a line of the kind `above`.
+fn is_out_of_order(number: u32, above: Option<Kind>, kind: Kind) -> bool
+    ensures { result ≡ is_out_of_order_of number above kind }
 {
+    if number == 1 {
+        return !kind.is_protocol();
+    }
     match above {
-        None => kind.rank() >= 1,
-        Some(above) => kind.rank() < 1 || kind.rank() < above.rank(),
+        None => kind.is_protocol(),
+        Some(above) => kind.is_protocol() || kind.rank() < above.rank(),
     }
 }
 
@@ -73,11 +77,14 @@ impl Reader {
             return Err(LineError::Breaks(Rule::F1));
         };
         let kind = line.kind();
-        if is_out_of_order(self.kind, kind) {
+        if is_out_of_order(number, self.kind, kind) {
             return Err(LineError::Breaks(Rule::F2));
         }
         let Reader { drafting, .. } = self;
-        let drafting = drafting.with_line(alloc, number, line, is_long(&words))?;
+        let drafting = drafting.with_line(alloc, number, line)?;
+        if is_long(&words) {
+            return Err(LineError::Breaks(Rule::F5));
+        }
         Ok(Reader {
             kind: Some(kind),
             drafting,
@@ -89,7 +96,7 @@ impl Reader {
         ensures { result ≡ has_ended_by self.now }
     {
         match self.kind {
-            Some(kind) => kind.rank() > 8,
+            Some(kind) => kind.is_end(),
             None => false,
         }
     }
