@@ -16,3 +16,6 @@ mod words;
 pub use error::TextError;
 pub use laws::{first_fault_is_exact, forms_are_exact};
 pub use text::read;
+
+#[cfg(test)]
+mod tests;
