@@ -16,6 +16,7 @@ pub record Outside : Type 0 where
   pub read_faults : ℕ
   pub write_faults : ℕ
 
+-- the outside, from its parts
 abbrev pub outside : Option (List ℕ) → ℕ → ℕ → Outside
 outside held read_faults write_faults = record { held = held; read_faults = read_faults; write_faults = write_faults }
 

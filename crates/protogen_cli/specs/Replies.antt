@@ -22,9 +22,11 @@ most_bytes = 1048576
 abbrev pub fault_line : Fault → List ℕ
 fault_line f = codes "line " ++ decimal f.line ++ codes " rule " ++ rule_name f.rule ++ codes "\n"
 
+-- the reply to words that aren't taken
 abbrev pub usage : Reply
 usage = record { status = Usage; bytes = codes "usage\n" }
 
+-- the reply to an input of more bytes
 abbrev pub too_long : Reply
 too_long = record { status = TooLong; bytes = codes "too long\n" }
 

@@ -13,7 +13,7 @@ exit_code WriteFault = 4
 exit_code Memory = 5
 exit_code TooLong = 6
 
--- the status is one that a reply has, and not one for its want
+-- a reply can have this status
 abbrev pub IsReplied : Status → Type 0
 IsReplied Done = Unit {0}
 IsReplied (Text fault) = Unit {0}
