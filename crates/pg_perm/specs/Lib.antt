@@ -1,2 +1,4 @@
 pub mod Names
 pub mod Rules
+pub mod Classes
+pub mod Drafts

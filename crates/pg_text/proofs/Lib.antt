@@ -7,3 +7,4 @@ pub mod Judging
 pub mod Faults
 pub mod Progress
 pub mod Unique
+pub mod Places

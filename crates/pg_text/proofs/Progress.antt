@@ -10,7 +10,7 @@ use Rattle.pg_perm.specs.declared.fault.Rule.TheVariants.{F2}
 use Rattle.pg_text.specs.declared.line.Line.{Line}
 use Rattle.pg_text.specs.declared.error.LineError.{LineError}
 use Rattle.pg_text.specs.declared.error.LineError.TheVariants as error
-use Rattle.pg_text.specs.Answers.{Judges, Reads, text_error}
+use Rattle.pg_text.specs.Answers.{Judges, Gives, text_error}
 use Rattle.pg_text.specs.Kinds.{is_end, kind_of}
 use Rattle.pg_text.specs.Reading.{line_of}
 use Rattle.pg_text.specs.Lines.{words_of, lines_of, without_empty_last, first_line, line_of_cut, cut_at}
@@ -97,7 +97,7 @@ by_line bytes rest line more before above so_far h = so_far.answers ∙ ap (read
 -- a line that can't be taken in
 pub error_at : (bytes rest line more : List ℕ) (before : ℕ) (above : Above) (e : LineError) → IsReadSoFar bytes rest before above
     → Some (line, more) ≡ first_line rest → Judges {A = Above} (Err e) (judge above (before + 1) line)
-    → Reads {A = Draft × ℕ} (Err (text_error (before + 1) e)) (reading bytes)
+    → Gives {A = Draft × ℕ} (Err (text_error (before + 1) e)) (reading bytes)
 error_at bytes rest line more before above (error.Breaks R) so_far h broken =
     ap (placed bytes) (by_line bytes rest line more before above so_far h
     ∙ ap (λ r. read_on (before + 1) (ends line) r (λ next. read_lines next (before + 1 + 1) (lines_of more))) broken)

@@ -7,7 +7,7 @@ use Rattle.pg_perm.specs.declared.fault.Rule.{Rule}
 use Rattle.pg_perm.specs.declared.fault.Rule.TheVariants.{F1, F2, F3, F4, F5, F6}
 use Rattle.pg_text.specs.declared.error.TextError.{TextError}
 use Rattle.pg_text.specs.declared.error.TextError.TheVariants as error
-use Rattle.pg_text.specs.Answers.{Reads}
+use Rattle.pg_text.specs.Answers.{Gives}
 use Rattle.pg_text.specs.FormFaults.{IsNoLater, IsFormFault, rule_rank}
 use Rattle.pg_text.specs.Texts.{reading, IsText}
 use Rattle.pg_text.proofs.Faults.{fault, text}
@@ -62,10 +62,10 @@ only_text bytes d place is_text = at (reading bytes) refl
         ap (λ (x : Draft). Ok (x, p.1)) (other.declares ∙ sym is_text.declares) ∙ ap (λ (n : ℕ). Ok (d, n)) (other.ended ∙ sym is_text.ended)
 
 -- what a reader answered is the first fault
-pub answered_fault : (bytes : List ℕ) (r : Result (Draft × ℕ) TextError) → Reads r (reading bytes) → (f : Fault) → r ≡ Err (error.Form f) → IsFormFault bytes f
-answered_fault bytes r reads f e = let P : Result (Draft × ℕ) TextError → Type 0 = λ x. Reads x (reading bytes) in fault bytes f (subst P e reads)
+pub answered_fault : (bytes : List ℕ) (r : Result (Draft × ℕ) TextError) → Gives r (reading bytes) → (f : Fault) → r ≡ Err (error.Form f) → IsFormFault bytes f
+answered_fault bytes r reads f e = let P : Result (Draft × ℕ) TextError → Type 0 = λ x. Gives x (reading bytes) in fault bytes f (subst P e reads)
 
 -- what a reader answered is the draft
-pub answered_text : (bytes : List ℕ) (r : Result (Draft × ℕ) TextError) → Reads r (reading bytes) → IfOk r (λ x. IsText bytes x.0 x.1)
+pub answered_text : (bytes : List ℕ) (r : Result (Draft × ℕ) TextError) → Gives r (reading bytes) → IfOk r (λ x. IsText bytes x.0 x.1)
 answered_text bytes (Ok p) reads = text bytes p.0 p.1 reads
 answered_text bytes (Err e) reads = tt

@@ -12,10 +12,10 @@ Judges (Ok x) wanted = wanted ≡ Ok x
 Judges (Err (line.Breaks R)) wanted = wanted ≡ Err R
 Judges (Err line.Memory) wanted = Unit {0}
 
-abbrev pub Reads : {A : Type 0} → Result A TextError → Result A Fault → Type 0
-Reads (Ok x) wanted = wanted ≡ Ok x
-Reads (Err (text.Form f)) wanted = wanted ≡ Err f
-Reads (Err text.Memory) wanted = Unit {0}
+abbrev pub Gives : {A : Type 0} → Result A TextError → Result A Fault → Type 0
+Gives (Ok x) wanted = wanted ≡ Ok x
+Gives (Err (text.Form f)) wanted = wanted ≡ Err f
+Gives (Err text.Memory) wanted = Unit {0}
 
 -- the error of a text whose line n has this error
 abbrev pub text_error : ℕ → LineError → TextError

@@ -3,9 +3,9 @@ pub mod Pairs
 pub mod Forms
 pub mod Reading
 pub mod Kinds
-pub mod Names
 pub mod Tables
 pub mod Numbering
 pub mod FormFaults
 pub mod Texts
 pub mod Answers
+pub mod Worked

@@ -1,5 +1,5 @@
 -- What the lines of a text declare, and the numbers of what they use.
-use Rattle.std.specs.Prelude.{ℕ, Bool, true, false, ◌||◌, nat_le, List, [], ◌∷◌, ◌++◌, length, codes, slice_get, Option, Some, None, is_some, if◌then◌else◌, bytes_eq}
+use Rattle.std.specs.Prelude.{ℕ, Bool, false, ◌||◌, nat_le, List, [], ◌∷◌, ◌++◌, length, codes, slice_get, Option, Some, None, is_some, if◌then◌else◌, bytes_eq}
 use Rattle.std.specs.List.{list_any}
 use Rattle.std.specs.Option.{option_map}
 use Rattle.pg_names.specs.Number.{number_of}
@@ -10,23 +10,13 @@ use Rattle.pg_perm.specs.declared.draft.Pair.{Pair}
 use Rattle.pg_perm.specs.declared.draft.ReplyName.{ReplyName}
 use Rattle.pg_perm.specs.declared.draft.ReplyName.TheVariants as reply
 use Rattle.pg_perm.specs.declared.draft.MsgClass.{MsgClass}
-use Rattle.pg_perm.specs.declared.draft.MsgClass.TheVariants.{Request, Forward, Reply}
 use Rattle.pg_text.specs.declared.line.Line.{Line}
 use Rattle.pg_text.specs.declared.line.Line.TheVariants.{Protocol, Cache, Message, Core, End}
 use Rattle.pg_text.specs.declared.line.CoreShape.{CoreShape}
 use Rattle.pg_text.specs.declared.line.CoreShape.TheVariants.{Hit, Ask, Leave}
-use Rattle.pg_text.specs.Names.{cache_names, message_names, taken_names, rule_lines}
+use Rattle.pg_perm.specs.Classes.{is_request, is_reply}
+use Rattle.pg_perm.specs.Drafts.{cache_names, message_names, taken_names, rule_lines}
 use Rattle.pg_text.specs.Reading.{◌>>=◌}
-
-abbrev pub is_request : MsgClass → Bool
-is_request (Request class) = true
-is_request (Forward class) = false
-is_request Reply = false
-
-abbrev pub is_reply : MsgClass → Bool
-is_reply (Request class) = false
-is_reply (Forward class) = false
-is_reply Reply = true
 
 -- the number of a cache state that is declared
 abbrev pub cache_number : Draft → List ℕ → Option ℕ

@@ -1,7 +1,7 @@
 -- The tables of names that are kept beside a draft.
 use Rattle.std.specs.Prelude.{ℕ, ◌≡◌, ◌≤◌, List, length}
 use Rattle.pg_perm.specs.declared.draft.Draft.{Draft}
-use Rattle.pg_text.specs.Names.{cache_names, message_names, rule_lines}
+use Rattle.pg_perm.specs.Drafts.{cache_names, message_names, rule_lines}
 
 -- the names are those that the draft declares, in their order, and the limits on them hold
 pub record AreTables (d : Draft) (caches messages : List (List ℕ)) : Type 0 where

@@ -1,7 +1,8 @@
 ghost use Rattle.std.specs.Prelude.{◌≡◌, IfOk, bytes_eq};
 ghost use Rattle.std.specs.List.{list_any};
 ghost use Rattle.pg_text.specs.Answers.{Judges};
-ghost use Rattle.pg_text.specs.Names.{taken_names, rule_lines};
+ghost use Rattle.pg_perm.specs.Classes.{is_request, is_reply};
+ghost use Rattle.pg_perm.specs.Drafts.{taken_names, rule_lines};
 ghost use Rattle.pg_text.specs.Texts.{declared};
 ghost use Rattle.pg_text.specs.FormFaults.{no_draft};
 ghost use Rattle.pg_text.specs.Numbering as draft;
@@ -70,7 +71,7 @@ impl Drafting {
     /// The number of a request.
     #[tactic(auto, unfolding(crate::specs::Numbering::message_number))]
     fn request_number(&self, name: &Word) -> Option<u8>
-        ensures { result ≡ draft.message_number draft.is_request self.now name.now }
+        ensures { result ≡ draft.message_number is_request self.now name.now }
     {
         let number = self.messages.find(name.as_str())?;
         let message = self.draft.messages.get(usize::from(number))?;
@@ -83,7 +84,7 @@ impl Drafting {
     /// The number of a reply.
     #[tactic(auto, unfolding(crate::specs::Numbering::message_number))]
     fn reply_number(&self, name: &Word) -> Option<u8>
-        ensures { result ≡ draft.message_number draft.is_reply self.now name.now }
+        ensures { result ≡ draft.message_number is_reply self.now name.now }
     {
         let number = self.messages.find(name.as_str())?;
         let message = self.draft.messages.get(usize::from(number))?;
@@ -270,12 +271,7 @@ impl Drafting {
     }
 
     /// Takes in line `number`, or says which of the rules F3 to F5 it breaks first, its number of words aside.
-    pub fn with_line(
-        self,
-        alloc: Global,
-        number: u32,
-        line: Line,
-    ) -> Result<Drafting, LineError>
+    pub fn with_line(self, alloc: Global, number: u32, line: Line) -> Result<Drafting, LineError>
         ensures { Judges result (declared self number line.entry) }
     {
         match line {
@@ -285,22 +281,18 @@ impl Drafting {
                 role,
                 perm,
                 clean,
-            } => self.with_cache(
-                CacheLine {
-                    line: number,
-                    name,
-                    role,
-                    perm,
-                    clean,
-                },
-            ),
-            Line::Message { name, class } => self.with_message(
-                MsgLine {
-                    line: number,
-                    name,
-                    class,
-                },
-            ),
+            } => self.with_cache(CacheLine {
+                line: number,
+                name,
+                role,
+                perm,
+                clean,
+            }),
+            Line::Message { name, class } => self.with_message(MsgLine {
+                line: number,
+                name,
+                class,
+            }),
             Line::Core {
                 state,
                 event,

@@ -1,13 +1,18 @@
 //! Laws of the definitions that the contracts of this crate cite.
 
-ghost use Rattle.std.specs.Prelude.{◌≡◌, ◌↔◌, ℕ, List};
+ghost use Rattle.std.specs.Prelude.{◌≡◌, ◌↔◌, ℕ, List, [], codes, drop};
 ghost use Rattle.pg_perm.specs.declared.draft.Draft.{Draft};
 ghost use Rattle.pg_perm.specs.declared.fault.Fault.{Fault};
+ghost use Rattle.pg_perm.specs.Drafts.{IsWellFormed};
 ghost use Rattle.pg_text.specs.declared.line.Line.{Line};
 ghost use Rattle.pg_text.specs.Forms.{spelling, IsWellNamed};
 ghost use Rattle.pg_text.specs.FormFaults.{IsFormFault};
 ghost use Rattle.pg_text.specs.Reading.{line_of};
-ghost use Rattle.pg_text.specs.Texts.{reading, IsText};
+ghost use Rattle.pg_text.specs.Texts.{reading, behind, place_behind, IsText};
+ghost use Rattle.pg_text.specs.Lines.{lines_of};
+ghost use Rattle.pg_text.specs.Worked.{worked_draft};
+
+use pg_perm::Rule;
 
 /// A line is in a form exactly where it is the spelling of a well-named value, of which it then is the only one.
 pub fn forms_are_exact()
@@ -20,4 +25,32 @@ pub fn forms_are_exact()
 pub fn first_fault_is_exact()
     ensures fault { (bytes : List ℕ) (f : Fault) → (reading bytes ≡ Err f) ↔ IsFormFault bytes f }
     ensures text { (bytes : List ℕ) (d : Draft) (place : ℕ) → (reading bytes ≡ Ok (d, place)) ↔ IsText bytes d place }
+{}
+
+/// The place behind line `n` is where the lines from there on begin.
+pub fn places_are_exact()
+    ensures lines { (n : ℕ) (bytes : List ℕ) → lines_of (behind n bytes) ≡ drop n (lines_of bytes) }
+    ensures place { (n : ℕ) (bytes : List ℕ) → behind n bytes ≡ drop (place_behind n bytes) bytes }
+{}
+
+/// What the rules say of small texts, one for each way to break one, and what one says that breaks none.
+pub fn worked_texts()
+    ensures no_line { reading [] ≡ Err (record { line = 1; rule = Rule.F6 }) }
+    ensures no_end { reading (codes "protocol P\n") ≡ Err (record { line = 2; rule = Rule.F6 }) }
+    ensures empty_line { reading (codes "protocol P\n\nend\n") ≡ Err (record { line = 2; rule = Rule.F1 }) }
+    ensures space_at_end { reading (codes "protocol P\nend \n") ≡ Err (record { line = 2; rule = Rule.F1 }) }
+    ensures long_name { reading (codes "protocol abcdefghijklmnopqrstuvwxy\nend\n") ≡ Err (record { line = 1; rule = Rule.F1 }) }
+    ensures underscore { reading (codes "protocol P\ncache A_B out none\nend\n") ≡ Err (record { line = 2; rule = Rule.F1 }) }
+    ensures end_first { reading (codes "end\n") ≡ Err (record { line = 1; rule = Rule.F2 }) }
+    ensures protocol_twice { reading (codes "protocol P\nprotocol P\nend\n") ≡ Err (record { line = 2; rule = Rule.F2 }) }
+    ensures out_of_order { reading (codes "protocol P\nreply Data data\nrequest GetS read\nend\n")
+        ≡ Err (record { line = 3; rule = Rule.F2 }) }
+    ensures taken { reading (codes "protocol P\nrequest count read\nend\n") ≡ Err (record { line = 2; rule = Rule.F3 }) }
+    ensures declared_twice { reading (codes "protocol P\ncache I out none\ncache I out none\nend\n")
+        ≡ Err (record { line = 3; rule = Rule.F3 }) }
+    ensures hit_is_no_request { reading (codes "protocol P\ncache S shared read\ncore S load hit Data S\nend\n")
+        ≡ Err (record { line = 3; rule = Rule.F4 }) }
+    ensures text { reading (codes "protocol P\ncache I out none\ncache S shared read\nrequest GetS read\nrequest PutS clean\nreply Data data\ncore I load GetS Data S\ncore S load hit\ncore S evict PutS\nend\ncores 2\n")
+        ≡ Ok (worked_draft, 163) }
+    ensures well_formed { IsWellFormed worked_draft }
 {}

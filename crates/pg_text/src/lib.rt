@@ -14,7 +14,7 @@ mod text;
 mod words;
 
 pub use error::TextError;
-pub use laws::{first_fault_is_exact, forms_are_exact};
+pub use laws::{first_fault_is_exact, forms_are_exact, places_are_exact, worked_texts};
 pub use text::read;
 
 #[cfg(test)]

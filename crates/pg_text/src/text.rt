@@ -2,7 +2,7 @@ ghost use Rattle.std.specs.Prelude.{◌≡◌, ◌<◌, length, IfOk};
 ghost use Rattle.pg_perm.specs.declared.fault.Fault.{Fault};
 ghost use Rattle.pg_text.specs.FormFaults.{IsFormFault};
 ghost use Rattle.pg_text.specs.Texts.{reading, IsText};
-ghost use Rattle.pg_text.specs.Answers.{Reads};
+ghost use Rattle.pg_text.specs.Answers.{Gives};
 
 use crate::error::TextError;
 use crate::lines::split_line;
@@ -10,13 +10,13 @@ use crate::reader::Reader;
 use pg_perm::{Draft, Fault, Rule};
 use std::alloc::Global;
 
-/// Reads the text of a protocol, up to its first `end` line. Nothing behind that line is judged.
+/// Gives the text of a protocol, up to its first `end` line. Nothing behind that line is judged.
 ///
 /// The answer is the draft of the text and the place behind its `end` line, counted in bytes. docs/TEXT.md has the rules, of which the first
 /// that the first wrong line breaks is the fault.
 pub fn read(alloc: Global, bytes: &[u8]) -> Result<(Draft, u32), TextError>
     requires { length bytes.now < 4294967295 }
-    ensures exact { Reads result (reading bytes.now) }
+    ensures exact { Gives result (reading bytes.now) }
     ensures fault { (f : Fault) → result ≡ Err (TextError.Form f) → IsFormFault bytes.now f }
     ensures text { IfOk result (λ x. IsText bytes.now x.0 x.1) }
 {
@@ -25,7 +25,7 @@ pub fn read(alloc: Global, bytes: &[u8]) -> Result<(Draft, u32), TextError>
 
 fn read_lines(alloc: Global, bytes: &[u8]) -> Result<(Draft, u32), TextError>
     requires { length bytes.now < 4294967295 }
-    ensures exact { Reads result (reading bytes.now) }
+    ensures exact { Gives result (reading bytes.now) }
 {
     let mut reader = Reader::new(alloc);
     let mut before: u32 = 0;

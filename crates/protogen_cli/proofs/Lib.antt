@@ -1,2 +1,1 @@
 mod Replies
-mod Worked

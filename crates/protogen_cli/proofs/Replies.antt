@@ -1,13 +1,15 @@
-use Rattle.std.proofs.Common.{◌≡◌, ℕ, ◌+◌, ◌<◌, List, [], Option, None, Some, length, length-append, refl, sym, ap, arith}
+use Rattle.std.proofs.Common.{◌≡◌, ℕ, ◌+◌, ◌<◌, List, [], Option, None, Some, length, length-append, refl, sym, ap, subst, arith}
 use Rattle.std.specs.Prelude.{Result, Ok, Err, Bool, true, false, nat_lt, if◌then◌else◌}
 use Rattle.std.proofs.lemmas.Bool.{lt-ltb}
 use Rattle.pg_io.specs.ReadAll.{GaveCount}
 use Rattle.pg_perm.specs.declared.draft.Draft.{Draft}
 use Rattle.pg_perm.specs.declared.fault.Fault.{Fault}
 use Rattle.pg_text.specs.Texts.{reading}
-use Rattle.protogen_cli.specs.declared.status.Status.TheVariants.{Usage}
-use Rattle.protogen_cli.specs.Replies.{too_long, most_bytes, answer_to_text, answer_to_input}
-use Rattle.protogen_cli.specs.Ends.{Tells}
+use Rattle.protogen_cli.specs.declared.status.Status.{Status}
+use Rattle.protogen_cli.specs.declared.status.Status.TheVariants.{Done, Text, Usage, ReadFault, WriteFault, Memory, TooLong}
+use Rattle.protogen_cli.specs.Statuses.{IsOfText}
+use Rattle.protogen_cli.specs.Replies.{Reply, too_long, most_bytes, answer_to_text, answer_to_input}
+use Rattle.protogen_cli.specs.Ends.{Tells, Outside, Ends}
 
 -- some input is told, whatever the source tells
 pub some_told : (left : Option (List ℕ)) → (input : List ℕ) × Tells left input
@@ -35,3 +37,13 @@ answer_to_input-not-usage input = at_length (nat_lt most_bytes (length input))
     at_length : (is_long : Bool) → Usage ≡ (if is_long then too_long else answer_to_text (reading input)).status → ⊥
     at_length true e = cc
     at_length false e = at_text (reading input) e
+
+-- a call that ends as with a text replies as to a text
+pub of_text_due : (s : Status) (due : Reply) (old new : Outside) → Ends s due old new → IsOfText s → IsOfText due.status
+of_text_due Done due old new ends of = subst IsOfText ends.due of
+of_text_due (Text f) due old new ends of = subst IsOfText ends.due of
+of_text_due Usage due old new ends of = absurd of
+of_text_due ReadFault due old new ends of = absurd of
+of_text_due WriteFault due old new ends of = absurd of
+of_text_due Memory due old new ends of = absurd of
+of_text_due TooLong due old new ends of = absurd of

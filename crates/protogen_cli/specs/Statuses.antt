@@ -22,3 +22,13 @@ IsReplied ReadFault = ⊥
 IsReplied WriteFault = ⊥
 IsReplied Memory = ⊥
 IsReplied TooLong = Unit {0}
+
+-- the status is one that a text has, which was read to its end
+abbrev pub IsOfText : Status → Type 0
+IsOfText Done = Unit {0}
+IsOfText (Text fault) = Unit {0}
+IsOfText Usage = ⊥
+IsOfText ReadFault = ⊥
+IsOfText WriteFault = ⊥
+IsOfText Memory = ⊥
+IsOfText TooLong = ⊥

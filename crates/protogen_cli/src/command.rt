@@ -1,6 +1,7 @@
-ghost use Rattle.std.specs.Prelude.{◌≡◌, ℕ, ◌-◌, ◌^◌, ◌<◌, ◌↔◌, ◌⊎◌, Some, List, false};
+ghost use Rattle.std.specs.Prelude.{◌≡◌, ℕ, ◌-◌, ◌^◌, ◌<◌, ◌≤◌, ◌↔◌, ◌⊎◌, Some, List, false};
 ghost use Rattle.protogen_cli.specs.Words.{texts, is_taken};
-ghost use Rattle.protogen_cli.specs.Statuses.{IsReplied};
+ghost use Rattle.protogen_cli.specs.Statuses.{IsReplied, IsOfText};
+ghost use Rattle.pg_io.specs.ReadAll.{GaveCount};
 ghost use Rattle.protogen_cli.specs.Replies.{Reply, answer};
 ghost use Rattle.protogen_cli.specs.Ends.{outside, Tells, IsReadToEnd, Ends};
 
@@ -12,9 +13,10 @@ use std::alloc::Global;
 
 /// Does what the words ask, from the source to the sink.
 ///
-/// `check` reads the source to its end, at most 1,048,576 bytes, and judges them as the text of a protocol. It writes
-/// one line: `ok`, or `line L rule R` for the first line L that breaks a rule and the first rule R that it breaks, or
-/// `too long`. At other words it reads nothing and writes `usage`. The whole line is made before any of it is written.
+/// `check` reads the source to its end and judges what it gave as the text of a protocol. It writes one line: `ok`, or
+/// `line L rule R` for the first line L that breaks a rule and the first rule R that it breaks, or `too long` where the
+/// source gave 1,048,577 bytes, which is one more than a text may have. At other words it reads nothing and writes
+/// `usage`. The whole line is made before any of it is written.
 ///
 /// `ReadFault` and `WriteFault` come as soon as the source or the sink has failed, and `Memory` where there was none left
 /// for the input, for what is read from it or for the line.
@@ -38,7 +40,9 @@ pub fn protogen<S: Source, K: Sink>(
     ensures usage { (result ≡ Status.Usage)
         ↔ ((is_taken (texts words.now) ≡ false) × (K.faults sink.new ≡ K.faults sink.old)) }
     ensures unread { is_taken (texts words.now) ≡ false → source.new ≡ source.old }
-    ensures whole { result ≡ Status.Done → IsReadToEnd (S.left source.old) (S.left source.new) }
+    ensures whole { IsOfText result → IsReadToEnd (S.left source.old) (S.left source.new) }
+    ensures taken { GaveCount (S.left source.old) (S.left source.new) (λ count. count ≤ 1048577) }
+    ensures too_long { result ≡ Status.TooLong → GaveCount (S.left source.old) (S.left source.new) (λ count. count ≡ 1048577) }
 
     ensures read_fault { (result ≡ Status.ReadFault) ↔ (S.faults source.old < S.faults source.new) }
     ensures write_fault { (result ≡ Status.WriteFault) ↔ (K.faults sink.old < K.faults sink.new) }

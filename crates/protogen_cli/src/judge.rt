@@ -1,4 +1,6 @@
-ghost use Rattle.std.specs.Prelude.{◌≡◌, ℕ, ◌-◌, ◌^◌, ◌<◌, List, IfOk};
+ghost use Rattle.std.specs.Prelude.{◌≡◌, ℕ, ◌-◌, ◌^◌, ◌<◌, ◌≤◌, List, IfOk};
+ghost use Rattle.pg_io.specs.ReadAll.{GaveCount};
+ghost use Rattle.protogen_cli.specs.Statuses.{IsOfText};
 ghost use Rattle.protogen_cli.specs.Replies.{answer_to_input};
 ghost use Rattle.protogen_cli.specs.Ends.{Tells, IsReadToEnd};
 ghost use Rattle.protogen_cli.specs.Judging.{RisesAtFault};
@@ -35,8 +37,10 @@ pub fn judge<S: Source>(alloc: Global, source: &mut S) -> Result<Report, NoRepor
     requires { S.faults source.old < 2 ^ 64 - 1 }
     ensures reply { IfOk result (λ report. (input : List ℕ)
         × Tells (S.left source.old) input × (report ≡ answer_to_input input)) }
-    ensures whole { IfOk result (λ report. report.status ≡ Status.Done
-        → IsReadToEnd (S.left source.old) (S.left source.new)) }
+    ensures whole { IfOk result (λ report. IsOfText report.status → IsReadToEnd (S.left source.old) (S.left source.new)) }
+    ensures too_long { IfOk result (λ report. report.status ≡ Status.TooLong
+        → GaveCount (S.left source.old) (S.left source.new) (λ count. count ≡ 1048577)) }
+    ensures taken { GaveCount (S.left source.old) (S.left source.new) (λ count. count ≤ 1048577) }
     ensures faults { RisesAtFault result (S.faults source.old) (S.faults source.new) }
 {
     match read_all(alloc, source, MOST_BYTES) {

@@ -4,11 +4,13 @@
 
 mod command;
 mod judge;
+mod laws;
 mod report;
 mod status;
 mod words;
 
 pub use command::protogen;
+pub use laws::worked_answers;
 pub use status::Status;
 pub use words::taken;
 

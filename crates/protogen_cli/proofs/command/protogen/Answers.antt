@@ -1,5 +1,6 @@
-use Rattle.std.proofs.Common.{◌∙◌, ap, refl, sym, arith}
-use Rattle.protogen_cli.proofs.Replies.{some_told, answer_to_input-not-usage}
+use Rattle.std.proofs.Common.{◌∙◌, ap, refl, subst, sym, arith}
+use Rattle.protogen_cli.specs.Statuses.{IsOfText}
+use Rattle.protogen_cli.proofs.Replies.{some_told, answer_to_input-not-usage, of_text_due}
 use Rattle.protogen_cli.proofs.command.protogen.Goals as goal
 
 pub returns-then-not-taken-clause-answer : goal.returns-then-not-taken-clause-answer
@@ -16,7 +17,7 @@ returns-then-not-taken-clause-usage g c = (
 
 pub returns-then-not-taken-clause-whole : goal.returns-then-not-taken-clause-whole
 returns-then-not-taken-clause-whole g c =
-    λ e. let ends = rw e at c.finish.ensures.ends 0 in let due = ends.due in cc
+    λ of. absurd (of_text_due _ _ _ _ (c.finish.ensures.ends 0) of)
 
 pub returns-then-not-taken-clause-read_fault : goal.returns-then-not-taken-clause-read_fault
 returns-then-not-taken-clause-read_fault g c = (
@@ -34,8 +35,7 @@ returns-in-Ok-clause-usage g c = (
 
 pub returns-in-Ok-clause-whole : goal.returns-in-Ok-clause-whole
 returns-in-Ok-clause-whole g c =
-    λ e. let ends = rw e at c.finish-in-Ok.ensures.ends 0 in
-    c.in-Ok.ensures.whole (sym (ends.due ∙ c.status.ensures))
+    λ of. c.in-Ok.ensures.whole (subst IsOfText c.status.ensures (of_text_due _ _ _ _ (c.finish-in-Ok.ensures.ends 0) of))
 
 pub returns-in-Ok-clause-read_fault : goal.returns-in-Ok-clause-read_fault
 returns-in-Ok-clause-read_fault g c = (
@@ -54,3 +54,12 @@ returns-in-Err-Memory-clause-answer g c =
     let told = some_told (g.S.Source.left c.args.source.now) in
     let faults = rw c.in-Err-Memory.field-0-is at c.in-Err-Memory.ensures.faults in
     (told.0, told.1, record { read_faults = faults; write_faults = refl; held = refl })
+
+pub returns-then-not-taken-clause-too_long : goal.returns-then-not-taken-clause-too_long
+returns-then-not-taken-clause-too_long g c =
+    λ e. let ends = rw e at c.finish.ensures.ends 0 in let due = ends.due in let none : ⊥ = cc in absurd none
+
+pub returns-in-Ok-clause-too_long : goal.returns-in-Ok-clause-too_long
+returns-in-Ok-clause-too_long g c =
+    λ e. let ends = rw e at c.finish-in-Ok.ensures.ends 0 in
+    c.in-Ok.ensures.too_long (sym (ends.due ∙ c.status.ensures))

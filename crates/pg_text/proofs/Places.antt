@@ -1,0 +1,51 @@
+-- What stands behind the first lines of a text.
+use Rattle.std.proofs.Common.{◌≡◌, ℕ, zero, suc, ◌+◌, List, [], ◌∷◌, ◌++◌, length, take, drop, refl, ap, sym, ◌∙◌, arith, append_assoc, append-nil, length-append, Option, Some, None}
+use Rattle.std.specs.Option.{option_map, option_map_or}
+use Rattle.std.specs.Prelude.{position, ◌==◌}
+use Rattle.std.proofs.Math.Seq.{drop-append_seam}
+use Rattle.std.proofs.lemmas.List.{take-append-drop}
+use Rattle.pg_text.specs.Lines.{lines_of, first_line, line_of_cut}
+use Rattle.pg_text.specs.Texts.{behind, behind_line, place_behind}
+use Rattle.pg_text.proofs.Progress.{lines_of-first, lines_of-none}
+
+-- behind one line are the other lines
+behind_line-lines : (bytes : List ℕ) → lines_of (behind_line bytes) ≡ drop 1 (lines_of bytes)
+behind_line-lines bytes = at (first_line bytes) refl
+  where
+    at : (o : Option (List ℕ × List ℕ)) → first_line bytes ≡ o → lines_of (option_map_or (λ p. p.1) o []) ≡ drop 1 (lines_of bytes)
+    at None e = sym (ap (drop 1) (lines_of-none bytes (sym e)))
+    at (Some p) e = sym (ap (drop 1) (lines_of-first bytes p.0 p.1 (sym e)))
+
+drop_one_more : {A : Type 0} (n : ℕ) (xs : List A) → drop 1 (drop n xs) ≡ drop (suc n) xs
+drop_one_more zero xs = refl
+drop_one_more (suc n) [] = refl
+drop_one_more (suc n) (x ∷ xs) = drop_one_more n xs
+
+-- behind n lines are the lines from there on
+pub behind-lines : (n : ℕ) (bytes : List ℕ) → lines_of (behind n bytes) ≡ drop n (lines_of bytes)
+behind-lines zero bytes = refl
+behind-lines (suc n) bytes = behind_line-lines (behind n bytes) ∙ ap (drop 1) (behind-lines n bytes) ∙ drop_one_more n (lines_of bytes)
+
+-- what is behind a line stands at the end
+behind_line-end : (bytes : List ℕ) → (front : List ℕ) × (bytes ≡ front ++ behind_line bytes)
+behind_line-end [] = ([], refl)
+behind_line-end (b ∷ bs) = at (position (λ c. c == 10) (b ∷ bs))
+  where
+    at : (o : Option ℕ) → (front : List ℕ)
+        × (b ∷ bs ≡ front ++ option_map_or (λ p. p.1) (line_of_cut (b ∷ bs) (option_map (λ i. (take i (b ∷ bs), drop (i + 1) (b ∷ bs))) o)) [])
+    at None = (b ∷ bs, sym (append-nil (b ∷ bs)))
+    at (Some i) = (take (i + 1) (b ∷ bs), sym (take-append-drop (i + 1) (b ∷ bs)))
+
+behind-end : (n : ℕ) (bytes : List ℕ) → (front : List ℕ) × (bytes ≡ front ++ behind n bytes)
+behind-end zero bytes = ([], refl)
+behind-end (suc n) bytes =
+    let far = behind-end n bytes in
+    let near = behind_line-end (behind n bytes) in
+    (far.0 ++ near.0, far.1 ∙ ap (λ (rest : List ℕ). far.0 ++ rest) near.1 ∙ sym (append_assoc far.0 near.0 (behind (suc n) bytes)))
+
+-- what is behind n lines is what stands from their place on
+pub behind-place : (n : ℕ) (bytes : List ℕ) → behind n bytes ≡ drop (place_behind n bytes) bytes
+behind-place n bytes =
+    let end = behind-end n bytes in
+    let place : place_behind n bytes ≡ length end.0 = omega (arith, ap length end.1, length-append end.0 (behind n bytes)) in
+    sym (ap (λ (k : ℕ). drop k bytes) place ∙ ap (drop (length end.0)) end.1 ∙ drop-append_seam end.0 (behind n bytes))
