@@ -1,4 +1,4 @@
-use Rattle.std.proofs.Common.{◌≡◌, ℕ, true, List, [], ◌∷◌, ap, sym, ◌∙◌, Some}
+use Rattle.std.proofs.Common.{◌≡◌, ℕ, true, List, [], ◌∷◌, ap, sym, ◌∙◌, Some, None, refl}
 use Rattle.std.specs.Prelude.{◌&&◌}
 use Rattle.std.proofs.lemmas.Option.{same_Some}
 use Rattle.pg_perm.proofs.Booleans.{both}
@@ -24,3 +24,14 @@ pub pairs_go_on : (left rest behind : List (List ℕ)) (reply fin : List ℕ) �
 pairs_go_on left rest behind reply fin h g all =
     let whole : left ≡ reply ∷ fin ∷ behind = first_rest_is left reply rest h ∙ ap (λ ws. reply ∷ ws) (first_rest_is rest fin behind g) in
     (both (is_name reply && is_state_name fin) (are_pairs behind) (sym (ap are_pairs whole) ∙ all)).1
+
+-- a list without a first element is empty
+pub no_first : {A : Type 0} (xs : List A) → None ≡ first_rest xs → xs ≡ []
+no_first [] h = refl
+no_first (x ∷ xs) h = cc
+
+-- two elements, and none behind them
+pub two_firsts : {A : Type 0} (xs rest more : List A) (x y : A) → Some (x, rest) ≡ first_rest xs → Some (y, more) ≡ first_rest rest → None ≡ first_rest more
+    → xs ≡ x ∷ y ∷ []
+two_firsts {A} xs rest more x y h g e =
+    first_rest_is xs x rest h ∙ ap (λ (zs : List A). x ∷ zs) (first_rest_is rest y more g ∙ ap (λ (zs : List A). y ∷ zs) (no_first more e))

@@ -1,5 +1,6 @@
 -- What an option or a result says that was found by steps and tests.
 use Rattle.std.proofs.Common.{◌≡◌, ℕ, Bool, true, false, List, Option, Some, None, Result, Ok, Err, refl, cond}
+use Rattle.std.specs.Prelude.{◌≢◌, ◌↔◌}
 use Rattle.std.specs.Str.{bytes_eq}
 use Rattle.std.proofs.lemmas.Slice.Eq.{bytes_eq-Decides}
 use Rattle.pg_text.specs.Reading.{◌>>=◌}
@@ -24,6 +25,23 @@ tested P false o p y first other e = other e
 pub told : {A : Type 0} (P : A → Type 0) (w s : List ℕ) (o p : Option A) (y : A) → (w ≡ s → o ≡ Some y → P y) → (p ≡ Some y → P y)
     → cond (bytes_eq w s) o p ≡ Some y → P y
 told P w s o p y first other e = tested P (bytes_eq w s) o p y (λ t. first (same_word w s t)) other e
+
+-- words that differ fail the test
+pub other_word : (w s : List ℕ) → w ≢ s → bytes_eq w s ≡ false
+other_word w s differ = at (bytes_eq w s) refl
+  where
+    at : (b : Bool) → bytes_eq w s ≡ b → b ≡ false
+    at true e = absurd (differ (same_word w s e))
+    at false e = refl
+
+-- the same of a test for a word, where the other branch may need that the word is not that one
+pub told_apart : {A : Type 0} (P : A → Type 0) (w s : List ℕ) (o p : Option A) (y : A) → (w ≡ s → o ≡ Some y → P y)
+    → (w ≢ s → p ≡ Some y → P y) → cond (bytes_eq w s) o p ≡ Some y → P y
+told_apart P w s o p y first other e = at (bytes_eq w s) (bytes_eq-Decides w s) e
+  where
+    at : (b : Bool) → (b ≡ true) ↔ (w ≡ s) → cond b o p ≡ Some y → P y
+    at true d e = first (d.0 refl) e
+    at false d e = other (λ h. absurd (cc (d.1 h))) e
 
 -- nothing is no value that was found
 pub nothing_found : {A : Type 0} {P : Type 0} (y : A) → None ≡ Some y → P

@@ -1,4 +1,5 @@
 use Rattle.std.specs.Prelude.{ℕ, ◌≢◌, true, false, List, [], ◌∷◌, codes, Some, None, IsTrue, IfSome}
+use Rattle.std.specs.List.{list_all}
 use Rattle.pg_perm.specs.Names.{is_name, is_state_name}
 use Rattle.pg_perm.specs.declared.kinds.Role.{Role}
 use Rattle.pg_perm.specs.declared.kinds.Role.TheVariants.{Out, Shared, Owner}
@@ -6,13 +7,22 @@ use Rattle.pg_perm.specs.declared.kinds.Perm.{Perm}
 use Rattle.pg_perm.specs.declared.kinds.Perm.TheVariants as perm
 use Rattle.pg_perm.specs.declared.kinds.ReqClass.{ReqClass}
 use Rattle.pg_perm.specs.declared.kinds.ReqClass.TheVariants as asks
+use Rattle.pg_perm.specs.declared.kinds.DirKind.{DirKind}
+use Rattle.pg_perm.specs.declared.kinds.DirKind.TheVariants as knows
+use Rattle.pg_perm.specs.declared.kinds.FwdClass.{FwdClass}
+use Rattle.pg_perm.specs.declared.kinds.FwdClass.TheVariants as asked
+use Rattle.pg_perm.specs.declared.kinds.Who.{Who}
+use Rattle.pg_perm.specs.declared.kinds.Who.TheVariants as who
+use Rattle.pg_perm.specs.declared.kinds.Left.{Left}
+use Rattle.pg_perm.specs.declared.kinds.Left.TheVariants as left
 use Rattle.pg_perm.specs.declared.kinds.Event.{Event}
 use Rattle.pg_perm.specs.declared.kinds.Event.TheVariants.{Load, Store, Evict}
 use Rattle.pg_perm.specs.declared.draft.MsgClass.TheVariants.{Request, Forward, Reply}
-use Rattle.std.specs.List.{list_all}
 use Rattle.pg_text.specs.Pairs.{words_in, is_named_pair}
 use Rattle.pg_text.specs.declared.line.Line.{Line}
-use Rattle.pg_text.specs.declared.line.Line.TheVariants.{Protocol, Cache, Message, Core, End}
+use Rattle.pg_text.specs.declared.line.Line.TheVariants.{Protocol, Cache, Dir, Message, Core, Take, Row, End}
+use Rattle.pg_text.specs.declared.line.RowShape.{RowShape}
+use Rattle.pg_text.specs.declared.line.RowShape.TheVariants as row
 use Rattle.pg_text.specs.declared.line.CoreShape.{CoreShape}
 use Rattle.pg_text.specs.declared.line.CoreShape.TheVariants.{Hit, Ask, Leave}
 
@@ -37,6 +47,27 @@ event_word Load = codes "load"
 event_word Store = codes "store"
 event_word Evict = codes "evict"
 
+abbrev pub dir_word : DirKind → List ℕ
+dir_word knows.Idle = codes "idle"
+dir_word knows.Shared = codes "shared"
+dir_word knows.Owned = codes "owned"
+dir_word knows.Mixed = codes "mixed"
+
+abbrev pub forward_word : FwdClass → List ℕ
+forward_word asked.Inv = codes "inv"
+forward_word asked.Share = codes "share"
+forward_word asked.Keep = codes "keep"
+forward_word asked.Drop = codes "drop"
+
+abbrev pub who_word : Who → List ℕ
+who_word who.Other = codes "other"
+who_word who.Sharer = codes "sharer"
+who_word who.Owner = codes "owner"
+
+abbrev pub left_word : Left → List ℕ
+left_word left.Last = codes "last"
+left_word left.More = codes "more"
+
 -- the words of a line behind its event
 abbrev pub shape_words : CoreShape → List (List ℕ)
 shape_words (Hit None) = codes "hit" ∷ []
@@ -49,10 +80,15 @@ abbrev pub spelling : Line → List (List ℕ)
 spelling (Protocol name) = codes "protocol" ∷ name ∷ []
 spelling (Cache name role perm false) = codes "cache" ∷ name ∷ role_word role ∷ perm_word perm ∷ []
 spelling (Cache name role perm true) = codes "cache" ∷ name ∷ role_word role ∷ perm_word perm ∷ codes "clean" ∷ []
+spelling (Dir name kind beside) = codes "dir" ∷ name ∷ dir_word kind ∷ beside
 spelling (Message name (Request class)) = codes "request" ∷ name ∷ request_word class ∷ []
-spelling (Message name (Forward class)) = []
+spelling (Message name (Forward class)) = codes "forward" ∷ name ∷ forward_word class ∷ []
 spelling (Message name Reply) = codes "reply" ∷ name ∷ codes "data" ∷ []
 spelling (Core state event shape) = codes "core" ∷ state ∷ event_word event ∷ shape_words shape
+spelling (Take state forward None next) = codes "take" ∷ state ∷ forward ∷ next ∷ []
+spelling (Take state forward (Some reply) next) = codes "take" ∷ state ∷ forward ∷ reply ∷ next ∷ []
+spelling (Row dir (row.Ask request sender action) next) = codes "row" ∷ dir ∷ request ∷ who_word sender ∷ action ∷ next ∷ []
+spelling (Row dir (row.Evict sender others) next) = codes "row" ∷ dir ∷ codes "evict" ∷ who_word sender ∷ left_word others ∷ next ∷ []
 spelling End = codes "end" ∷ []
 
 -- a load or a store hits or asks, and an evict leaves
@@ -64,12 +100,23 @@ IsShapeOf event (Hit next) = IfSome next (λ w. IsTrue (is_state_name w))
 IsShapeOf event (Ask request pairs) = IsTrue (is_name request) × IsTrue (list_all is_named_pair pairs) × (pairs ≢ [])
 IsShapeOf event (Leave request) = ⊥
 
+-- the request of a row is a name and not `evict`, and none but an owner or a sharer evicts
+abbrev pub IsRowShape : RowShape → Type 0
+IsRowShape (row.Ask request sender action) = IsTrue (is_name request) × (request ≢ codes "evict") × IsTrue (is_name action)
+IsRowShape (row.Evict who.Other others) = ⊥
+IsRowShape (row.Evict who.Sharer others) = Unit {0}
+IsRowShape (row.Evict who.Owner others) = Unit {0}
+
 -- each of its words is a name of its kind, and there is such a line
 abbrev pub IsWellNamed : Line → Type 0
 IsWellNamed (Protocol name) = IsTrue (is_name name)
 IsWellNamed (Cache name role perm clean) = IsTrue (is_state_name name)
+IsWellNamed (Dir name kind beside) = IsTrue (is_state_name name) × IsTrue (list_all is_state_name beside)
 IsWellNamed (Message name (Request class)) = IsTrue (is_name name)
-IsWellNamed (Message name (Forward class)) = ⊥
+IsWellNamed (Message name (Forward class)) = IsTrue (is_name name)
 IsWellNamed (Message name Reply) = IsTrue (is_name name)
 IsWellNamed (Core state event shape) = IsTrue (is_state_name state) × IsShapeOf event shape
+IsWellNamed (Take state forward reply next) =
+    IsTrue (is_state_name state) × IsTrue (is_name forward) × IfSome reply (λ w. IsTrue (is_name w)) × IsTrue (is_state_name next)
+IsWellNamed (Row dir shape next) = IsTrue (is_state_name dir) × IsRowShape shape × IsTrue (is_state_name next)
 IsWellNamed End = Unit {0}

@@ -29,8 +29,11 @@ is_end _ = false
 abbrev pub kind_of : Line → Kind
 kind_of (line.Protocol name) = Protocol
 kind_of (line.Cache name role perm clean) = Cache
+kind_of (line.Dir name kind beside) = Dir
 kind_of (line.Message name (class.Request asked)) = Request
 kind_of (line.Message name (class.Forward asked)) = Forward
 kind_of (line.Message name class.Reply) = Reply
 kind_of (line.Core state event shape) = Core
+kind_of (line.Take state forward reply next) = Take
+kind_of (line.Row dir shape next) = Row
 kind_of line.End = End

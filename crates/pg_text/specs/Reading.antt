@@ -1,5 +1,6 @@
 use Rattle.std.specs.Prelude.{ℕ, Bool, true, false, ◌&&◌, List, [], ◌∷◌, codes, Option, Some, None, if◌then◌else◌}
 use Rattle.std.specs.Str.{bytes_eq}
+use Rattle.std.specs.List.{list_all}
 use Rattle.pg_perm.specs.Names.{is_name, is_state_name}
 use Rattle.pg_perm.specs.declared.kinds.Role.{Role}
 use Rattle.pg_perm.specs.declared.kinds.Role.TheVariants.{Out, Shared, Owner}
@@ -7,11 +8,21 @@ use Rattle.pg_perm.specs.declared.kinds.Perm.{Perm}
 use Rattle.pg_perm.specs.declared.kinds.Perm.TheVariants as perm
 use Rattle.pg_perm.specs.declared.kinds.ReqClass.{ReqClass}
 use Rattle.pg_perm.specs.declared.kinds.ReqClass.TheVariants as asks
+use Rattle.pg_perm.specs.declared.kinds.DirKind.{DirKind}
+use Rattle.pg_perm.specs.declared.kinds.DirKind.TheVariants as knows
+use Rattle.pg_perm.specs.declared.kinds.FwdClass.{FwdClass}
+use Rattle.pg_perm.specs.declared.kinds.FwdClass.TheVariants as asked
+use Rattle.pg_perm.specs.declared.kinds.Who.{Who}
+use Rattle.pg_perm.specs.declared.kinds.Who.TheVariants as who
+use Rattle.pg_perm.specs.declared.kinds.Left.{Left}
+use Rattle.pg_perm.specs.declared.kinds.Left.TheVariants as left
 use Rattle.pg_perm.specs.declared.kinds.Event.{Event}
 use Rattle.pg_perm.specs.declared.kinds.Event.TheVariants.{Load, Store, Evict}
-use Rattle.pg_perm.specs.declared.draft.MsgClass.TheVariants.{Request, Reply}
+use Rattle.pg_perm.specs.declared.draft.MsgClass.TheVariants.{Request, Forward, Reply}
 use Rattle.pg_text.specs.declared.line.Line.{Line}
-use Rattle.pg_text.specs.declared.line.Line.TheVariants.{Protocol, Cache, Message, Core, End}
+use Rattle.pg_text.specs.declared.line.Line.TheVariants.{Protocol, Cache, Dir, Message, Core, Take, Row, End}
+use Rattle.pg_text.specs.declared.line.RowShape.{RowShape}
+use Rattle.pg_text.specs.declared.line.RowShape.TheVariants as row
 use Rattle.pg_text.specs.declared.line.CoreShape.{CoreShape}
 use Rattle.pg_text.specs.declared.line.CoreShape.TheVariants.{Hit, Ask, Leave}
 use Rattle.pg_text.specs.Lines.{first_rest}
@@ -40,6 +51,37 @@ request_of w = if bytes_eq w (codes "read") then Some asks.Read
     else if bytes_eq w (codes "write") then Some asks.Write
     else if bytes_eq w (codes "clean") then Some asks.Clean
     else if bytes_eq w (codes "dirty") then Some asks.Dirty
+    else None
+
+abbrev pub dir_kind_of : List ℕ → Option DirKind
+dir_kind_of w = if bytes_eq w (codes "idle") then Some knows.Idle
+    else if bytes_eq w (codes "shared") then Some knows.Shared
+    else if bytes_eq w (codes "owned") then Some knows.Owned
+    else if bytes_eq w (codes "mixed") then Some knows.Mixed
+    else None
+
+abbrev pub forward_of : List ℕ → Option FwdClass
+forward_of w = if bytes_eq w (codes "inv") then Some asked.Inv
+    else if bytes_eq w (codes "share") then Some asked.Share
+    else if bytes_eq w (codes "keep") then Some asked.Keep
+    else if bytes_eq w (codes "drop") then Some asked.Drop
+    else None
+
+abbrev pub who_of : List ℕ → Option Who
+who_of w = if bytes_eq w (codes "other") then Some who.Other
+    else if bytes_eq w (codes "sharer") then Some who.Sharer
+    else if bytes_eq w (codes "owner") then Some who.Owner
+    else None
+
+-- who may evict
+abbrev pub holder_of : List ℕ → Option Who
+holder_of w = if bytes_eq w (codes "sharer") then Some who.Sharer
+    else if bytes_eq w (codes "owner") then Some who.Owner
+    else None
+
+abbrev pub left_of : List ℕ → Option Left
+left_of w = if bytes_eq w (codes "last") then Some left.Last
+    else if bytes_eq w (codes "more") then Some left.More
     else None
 
 abbrev pub event_of : List ℕ → Option Event
@@ -86,6 +128,21 @@ cache_line ws = do
   perm ← perm_of word.0
   clean ← clean_of word.1
   Some (Cache name.0 role perm clean)
+
+unfoldable pub dir_line : List (List ℕ) → Option Line
+dir_line ws = do
+  name ← state_at ws
+  word ← first_rest name.1
+  kind ← dir_kind_of word.0
+  if list_all is_state_name word.1 then Some (Dir name.0 kind word.1) else None
+
+unfoldable pub forward_line : List (List ℕ) → Option Line
+forward_line ws = do
+  name ← name_at ws
+  word ← first_rest name.1
+  class ← forward_of word.0
+  end ← ended word.1
+  Some (Message name.0 (Forward class))
 
 unfoldable pub request_line : List (List ℕ) → Option Line
 request_line ws = do
@@ -137,6 +194,57 @@ core_line ws = do
   shape ← shape_of event word.1
   Some (Core state.0 event shape)
 
+-- a take line that sends no reply
+abbrev pub take_silent : List ℕ → List ℕ → List ℕ → Option Line
+take_silent state forward next = if is_state_name next then Some (Take state forward None next) else None
+
+-- a take line that sends a reply
+abbrev pub take_replying : List ℕ → List ℕ → List ℕ → List ℕ → Option Line
+take_replying state forward reply next = if is_name reply && is_state_name next then Some (Take state forward (Some reply) next) else None
+
+-- a state, and perhaps a reply in front of it
+abbrev pub take_line_end : List ℕ → List ℕ → List (List ℕ) → Option Line
+take_line_end state forward [] = None
+take_line_end state forward (next ∷ []) = take_silent state forward next
+take_line_end state forward (reply ∷ next ∷ []) = take_replying state forward reply next
+take_line_end state forward (reply ∷ next ∷ more ∷ ws) = None
+
+unfoldable pub take_line : List (List ℕ) → Option Line
+take_line ws = do
+  state ← state_at ws
+  forward ← name_at state.1
+  take_line_end state.0 forward.0 forward.1
+
+-- who sends a request and what is done about it, and the words behind that
+unfoldable pub asking_row : List ℕ → List (List ℕ) → Option (RowShape × List (List ℕ))
+asking_row request ws = do
+  word ← first_rest ws
+  sender ← who_of word.0
+  action ← name_at word.1
+  if is_name request then Some (row.Ask request sender action.0, action.1) else None
+
+-- who evicts and whether sharers are left, and the words behind that
+unfoldable pub evicting_row : List (List ℕ) → Option (RowShape × List (List ℕ))
+evicting_row ws = do
+  word ← first_rest ws
+  sender ← holder_of word.0
+  word ← first_rest word.1
+  others ← left_of word.0
+  Some (row.Evict sender others, word.1)
+
+-- the third word decides
+abbrev pub row_shape : List ℕ → List (List ℕ) → Option (RowShape × List (List ℕ))
+row_shape w ws = if bytes_eq w (codes "evict") then evicting_row ws else asking_row w ws
+
+unfoldable pub row_line : List (List ℕ) → Option Line
+row_line ws = do
+  dir ← state_at ws
+  word ← first_rest dir.1
+  shape ← row_shape word.0 word.1
+  next ← state_at shape.1
+  end ← ended next.1
+  Some (Row dir.0 shape.0 next.0)
+
 unfoldable pub end_line : List (List ℕ) → Option Line
 end_line ws = do
   end ← ended ws
@@ -146,9 +254,13 @@ end_line ws = do
 abbrev pub line_after : List ℕ → List (List ℕ) → Option Line
 line_after w ws = if bytes_eq w (codes "protocol") then protocol_line ws
     else if bytes_eq w (codes "cache") then cache_line ws
+    else if bytes_eq w (codes "dir") then dir_line ws
     else if bytes_eq w (codes "request") then request_line ws
+    else if bytes_eq w (codes "forward") then forward_line ws
     else if bytes_eq w (codes "reply") then reply_line ws
     else if bytes_eq w (codes "core") then core_line ws
+    else if bytes_eq w (codes "take") then take_line ws
+    else if bytes_eq w (codes "row") then row_line ws
     else if bytes_eq w (codes "end") then end_line ws
     else None
 

@@ -22,13 +22,14 @@ abbrev pub behind : ℕ → List ℕ → List ℕ
 behind zero bytes = bytes
 behind (suc n) bytes = behind_line (behind n bytes)
 
+-- a draft that is there is one that a line adds to, where there aren't as many lines of its kind as there may be
+abbrev pub within : Option Draft → Bool → Result Draft Rule
+within None is_over = Err F4
+within (Some more) is_over = if is_over then Err F5 else Ok more
+
 -- the draft with line n, or the first of the rules F3 to F5 that the line breaks
 abbrev pub declared : Draft → ℕ → Line → Result Draft Rule
 declared d n l = if is_taken d l then Err F3 else within (with_line d n l) (is_full d l)
-  where
-    within : Option Draft → Bool → Result Draft Rule
-    within None is_over = Err F4
-    within (Some more) is_over = if is_over then Err F5 else Ok more
 
 -- the lines with a line of this kind below them
 abbrev pub with_kind : Kind → Result Draft Rule → Result Above Rule

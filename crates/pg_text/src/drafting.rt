@@ -1,25 +1,29 @@
-ghost use Rattle.std.specs.Prelude.{◌≡◌, IfOk, bytes_eq};
+ghost use Rattle.std.specs.Prelude.{◌≡◌, IfOk, length, nat_le, is_some, bytes_eq, if◌then◌else◌};
 ghost use Rattle.std.specs.List.{list_any};
 ghost use Rattle.pg_text.specs.Answers.{Judges};
-ghost use Rattle.pg_perm.specs.Classes.{is_request, is_reply};
+ghost use Rattle.pg_perm.specs.Classes.{is_request, is_forward, is_reply};
 ghost use Rattle.pg_perm.specs.Drafts.{taken_names, rule_lines};
-ghost use Rattle.pg_text.specs.Texts.{declared};
+ghost use Rattle.pg_text.specs.Texts.{declared, within};
 ghost use Rattle.pg_text.specs.FormFaults.{no_draft};
 ghost use Rattle.pg_text.specs.Numbering as draft;
 
 use crate::error::LineError;
-use crate::line::{CoreShape, Line};
+use crate::line::{CoreShape, Line, RowShape};
 use crate::pairs::NamePairs;
+use crate::states::StateNames;
 use pg_names::Names;
 use pg_perm::{
-    CacheLine, CoreForm, CoreLine, Draft, Event, MsgClass, MsgLine, Pair, Pairs, ReplyName, Rule,
-    Sequence, Word,
+    Action, CacheLine, CoreForm, CoreLine, DirKind, DirLine, Draft, Event, MsgClass, MsgLine, Pair,
+    Pairs, ReplyName, RowForm, RowLine, Rule, Sequence, States, TakeLine, Word,
 };
 use std::alloc::{AllocError, Global};
 use std::marker::Model;
 
 /// The most lines that declare a cache state.
 const CACHE_LIMIT: usize = 16;
+
+/// The most lines that declare a directory state.
+const DIR_LIMIT: usize = 16;
 
 /// The most lines that declare a message.
 const MESSAGE_LIMIT: usize = 32;
@@ -45,6 +49,7 @@ fn is_taken_name(name: &[u8]) -> bool
 pub struct Drafting {
     draft: Draft,
     caches: Names,
+    dirs: Names,
     messages: Names,
 }
 
@@ -56,7 +61,7 @@ impl Model for Drafting {
 
     ghost view = { λ d. d.draft };
 
-    ghost invariant = { λ d. AreTables d.draft d.caches d.messages };
+    ghost invariant = { λ d. AreTables d.draft d.caches d.dirs d.messages };
 }
 
 impl Drafting {
@@ -65,6 +70,14 @@ impl Drafting {
         ensures { result ≡ draft.cache_number self.now name.now }
     {
         let number = self.caches.find(name.as_str())?;
+        Some(number as u8)
+    }
+
+    /// The number of a directory state.
+    fn dir_number(&self, name: &Word) -> Option<u8>
+        ensures { result ≡ draft.dir_number self.now name.now }
+    {
+        let number = self.dirs.find(name.as_str())?;
         Some(number as u8)
     }
 
@@ -77,6 +90,19 @@ impl Drafting {
         let message = self.draft.messages.get(usize::from(number))?;
         match message.class {
             MsgClass::Request(_) => Some(number as u8),
+            _ => None,
+        }
+    }
+
+    /// The number of a forward.
+    #[tactic(auto, unfolding(crate::specs::Numbering::message_number))]
+    fn forward_number(&self, name: &Word) -> Option<u8>
+        ensures { result ≡ draft.message_number is_forward self.now name.now }
+    {
+        let number = self.messages.find(name.as_str())?;
+        let message = self.draft.messages.get(usize::from(number))?;
+        match message.class {
+            MsgClass::Forward(_) => Some(number as u8),
             _ => None,
         }
     }
@@ -160,12 +186,86 @@ impl Drafting {
         }
     }
 
+    /// Cache states in numbers, or none where one isn't declared.
+    fn states(&self, alloc: Global, names: &StateNames) -> Result<Option<States>, AllocError>
+        ensures { IfOk result (λ states. states ≡ draft.states_of self.now names.now) }
+    {
+        let mut states = States::new(alloc);
+        let mut left = names.again();
+        while let Some((name, rest)) = left.first() {
+            let Some(state) = self.cache_number(&name) else {
+                return Ok(None);
+            };
+            states.push(state)?;
+            left = rest;
+        }
+        Ok(Some(states))
+    }
+
+    /// The reply of a take line, where it has one, or none where it isn't declared.
+    #[tactic(auto, unfolding(crate::specs::Numbering::take_reply))]
+    fn take_reply(&self, reply: &Option<Word>) -> Option<Option<u8>>
+        ensures { result ≡ draft.take_reply self.now reply.now }
+    {
+        match reply {
+            None => Some(None),
+            Some(name) => {
+                let reply = self.reply_number(name)?;
+                Some(Some(reply))
+            }
+        }
+    }
+
+    /// The action of a row line.
+    #[tactic(auto, unfolding(crate::specs::Numbering::action_of))]
+    fn action(&self, name: &Word) -> Option<Action>
+        ensures { result ≡ draft.action_of self.now name.now }
+    {
+        if name.bytes() == b"count".as_slice() {
+            return Some(Action::Count);
+        }
+        let number = self.messages.find(name.as_str())?;
+        let message = self.draft.messages.get(usize::from(number))?;
+        match message.class {
+            MsgClass::Request(_) => None,
+            MsgClass::Forward(_) => Some(Action::Forward(number as u8)),
+            MsgClass::Reply => Some(Action::Reply(number as u8)),
+        }
+    }
+
+    /// What stands behind the state of a row line in numbers, or none where a name isn't declared.
+    #[tactic(auto, unfolding(crate::specs::Numbering::row_form))]
+    fn row_form(&self, shape: &RowShape) -> Option<RowForm>
+        ensures { result ≡ draft.row_form self.now shape.now }
+    {
+        match shape {
+            RowShape::Ask {
+                request,
+                who,
+                action,
+            } => {
+                let request = self.request_number(request)?;
+                let action = self.action(action)?;
+                Some(RowForm::Ask {
+                    request,
+                    who: *who,
+                    action,
+                })
+            }
+            RowShape::Evict { who, left } => Some(RowForm::Evict {
+                who: *who,
+                left: *left,
+            }),
+        }
+    }
+
     fn with_protocol(self, number: u32, name: Word) -> Result<Drafting, LineError>
         ensures { Judges result (declared self number (Line.Protocol name)) }
     {
         let Drafting {
             mut draft,
             caches,
+            dirs,
             messages,
         } = self;
         draft.line = number;
@@ -173,6 +273,7 @@ impl Drafting {
         Ok(Drafting {
             draft,
             caches,
+            dirs,
             messages,
         })
     }
@@ -189,6 +290,7 @@ impl Drafting {
         let Drafting {
             mut draft,
             mut caches,
+            dirs,
             messages,
         } = self;
         caches.add(cache.name.as_str())?;
@@ -196,6 +298,7 @@ impl Drafting {
         Ok(Drafting {
             draft,
             caches,
+            dirs,
             messages,
         })
     }
@@ -214,6 +317,7 @@ impl Drafting {
         let Drafting {
             mut draft,
             caches,
+            dirs,
             mut messages,
         } = self;
         messages.add(message.name.as_str())?;
@@ -221,25 +325,42 @@ impl Drafting {
         Ok(Drafting {
             draft,
             caches,
+            dirs,
             messages,
         })
     }
 
-    #[tactic(auto, unfolding(crate::specs::Numbering::with_core))]
-    fn with_core(
-        self,
+    /// The core line in numbers, or none where a name isn't declared.
+    #[tactic(auto, unfolding(crate::specs::Numbering::core_of))]
+    fn core(
+        &self,
         alloc: Global,
         number: u32,
-        name: Word,
+        state: &Word,
         event: Event,
-        shape: CoreShape,
-    ) -> Result<Drafting, LineError>
-        ensures { Judges result (declared self number (Line.Core name event shape.entry)) }
+        shape: &CoreShape,
+    ) -> Result<Option<CoreLine>, AllocError>
+        ensures { IfOk result (λ core. core ≡ draft.core_of self.now number state.now event shape.now) }
     {
-        let Some(state) = self.cache_number(&name) else {
-            return Err(LineError::Breaks(Rule::F4));
+        let Some(state) = self.cache_number(state) else {
+            return Ok(None);
         };
-        let Some(form) = self.core_form(alloc, &shape)? else {
+        let Some(form) = self.core_form(alloc, shape)? else {
+            return Ok(None);
+        };
+        Ok(Some(CoreLine {
+            line: number,
+            state,
+            event,
+            form,
+        }))
+    }
+
+    /// Puts a core line last, or none for one that uses a name which isn't declared.
+    fn put_core(self, core: Option<CoreLine>) -> Result<Drafting, LineError>
+        ensures { Judges result (within (draft.put_core self core) (nat_le 512 (rule_lines self))) }
+    {
+        let Some(core) = core else {
             return Err(LineError::Breaks(Rule::F4));
         };
         if self.rule_lines() >= RULE_LIMIT {
@@ -248,17 +369,174 @@ impl Drafting {
         let Drafting {
             mut draft,
             caches,
+            dirs,
             messages,
         } = self;
-        draft.cores.push(CoreLine {
+        draft.cores.push(core)?;
+        Ok(Drafting {
+            draft,
+            caches,
+            dirs,
+            messages,
+        })
+    }
+
+    fn with_core(
+        self,
+        alloc: Global,
+        number: u32,
+        state: Word,
+        event: Event,
+        shape: CoreShape,
+    ) -> Result<Drafting, LineError>
+        ensures { Judges result (declared self number (Line.Core state event shape.entry)) }
+    {
+        let core = self.core(alloc, number, &state, event, &shape)?;
+        self.put_core(core)
+    }
+
+    /// Puts a dir line last, whose states are none where one isn't declared.
+    fn put_dir(
+        self,
+        number: u32,
+        name: Word,
+        kind: DirKind,
+        beside: Option<States>,
+    ) -> Result<Drafting, LineError>
+        ensures { Judges result (if is_some (draft.dir_number self name) then Err Rule.F3
+            else within (draft.put_dir self number name kind beside) (nat_le 16 (length self.dirs))) }
+    {
+        if self.dirs.find(name.as_str()).is_some() {
+            return Err(LineError::Breaks(Rule::F3));
+        }
+        let Some(beside) = beside else {
+            return Err(LineError::Breaks(Rule::F4));
+        };
+        if self.draft.dirs.len() >= DIR_LIMIT {
+            return Err(LineError::Breaks(Rule::F5));
+        }
+        let Drafting {
+            mut draft,
+            caches,
+            mut dirs,
+            messages,
+        } = self;
+        dirs.add(name.as_str())?;
+        draft.dirs.push(DirLine {
             line: number,
-            state,
-            event,
-            form,
+            name,
+            kind,
+            beside,
         })?;
         Ok(Drafting {
             draft,
             caches,
+            dirs,
+            messages,
+        })
+    }
+
+    fn with_dir(
+        self,
+        alloc: Global,
+        number: u32,
+        name: Word,
+        kind: DirKind,
+        names: StateNames,
+    ) -> Result<Drafting, LineError>
+        ensures { Judges result (declared self number (Line.Dir name kind names.entry)) }
+    {
+        let beside = self.states(alloc, &names)?;
+        self.put_dir(number, name, kind, beside)
+    }
+
+    /// The take line in numbers, or none where a name isn't declared.
+    #[tactic(auto, unfolding(crate::specs::Numbering::take_of))]
+    fn take(
+        &self,
+        number: u32,
+        state: &Word,
+        forward: &Word,
+        reply: &Option<Word>,
+        next: &Word,
+    ) -> Option<TakeLine>
+        ensures { result ≡ draft.take_of self.now number state.now forward.now reply.now next.now }
+    {
+        let state = self.cache_number(state)?;
+        let forward = self.forward_number(forward)?;
+        let reply = self.take_reply(reply)?;
+        let next = self.cache_number(next)?;
+        Some(TakeLine {
+            line: number,
+            state,
+            forward,
+            reply,
+            next,
+        })
+    }
+
+    /// Puts a take line last, or none for one that uses a name which isn't declared.
+    fn put_take(self, take: Option<TakeLine>) -> Result<Drafting, LineError>
+        ensures { Judges result (within (draft.put_take self take) (nat_le 512 (rule_lines self))) }
+    {
+        let Some(take) = take else {
+            return Err(LineError::Breaks(Rule::F4));
+        };
+        if self.rule_lines() >= RULE_LIMIT {
+            return Err(LineError::Breaks(Rule::F5));
+        }
+        let Drafting {
+            mut draft,
+            caches,
+            dirs,
+            messages,
+        } = self;
+        draft.takes.push(take)?;
+        Ok(Drafting {
+            draft,
+            caches,
+            dirs,
+            messages,
+        })
+    }
+
+    /// The row line in numbers, or none where a name isn't declared.
+    #[tactic(auto, unfolding(crate::specs::Numbering::row_of))]
+    fn row(&self, number: u32, dir: &Word, shape: &RowShape, next: &Word) -> Option<RowLine>
+        ensures { result ≡ draft.row_of self.now number dir.now shape.now next.now }
+    {
+        let dir = self.dir_number(dir)?;
+        let form = self.row_form(shape)?;
+        let next = self.dir_number(next)?;
+        Some(RowLine {
+            line: number,
+            dir,
+            form,
+            next,
+        })
+    }
+
+    /// Puts a row line last, or none for one that uses a name which isn't declared.
+    fn put_row(self, row: Option<RowLine>) -> Result<Drafting, LineError>
+        ensures { Judges result (within (draft.put_row self row) (nat_le 512 (rule_lines self))) }
+    {
+        let Some(row) = row else {
+            return Err(LineError::Breaks(Rule::F4));
+        };
+        if self.rule_lines() >= RULE_LIMIT {
+            return Err(LineError::Breaks(Rule::F5));
+        }
+        let Drafting {
+            mut draft,
+            caches,
+            dirs,
+            messages,
+        } = self;
+        draft.rows.push(row)?;
+        Ok(Drafting {
+            draft,
+            caches,
+            dirs,
             messages,
         })
     }
@@ -288,6 +566,7 @@ impl Drafting {
                 perm,
                 clean,
             }),
+            Line::Dir { name, kind, beside } => { self.with_dir(alloc, number, name, kind, beside) }
             Line::Message { name, class } => self.with_message(MsgLine {
                 line: number,
                 name,
@@ -298,6 +577,19 @@ impl Drafting {
                 event,
                 shape,
             } => self.with_core(alloc, number, state, event, shape),
+            Line::Take {
+                state,
+                forward,
+                reply,
+                next,
+            } => {
+                let take = self.take(number, &state, &forward, &reply, &next);
+                self.put_take(take)
+            }
+            Line::Row { dir, shape, next } => {
+                let row = self.row(number, &dir, &shape, &next);
+                self.put_row(row)
+            }
             Line::End => Ok(self),
         }
     }
@@ -318,6 +610,7 @@ impl Drafting {
                 rows: Sequence::new(alloc),
             },
             caches: Names::new(alloc),
+            dirs: Names::new(alloc),
             messages: Names::new(alloc),
         }
     }
@@ -328,6 +621,7 @@ impl Drafting {
         let Drafting {
             draft,
             caches: _,
+            dirs: _,
             messages: _,
         } = self;
         draft

@@ -10,6 +10,7 @@ mod lines;
 mod pairs;
 mod reader;
 mod reading;
+mod states;
 mod text;
 mod words;
 

@@ -2,7 +2,8 @@ ghost use Rattle.std.specs.Prelude.{◌≡◌};
 ghost use Rattle.pg_text.specs.Kinds.{kind_of, rank_of, is_protocol, is_end};
 
 use crate::pairs::NamePairs;
-use pg_perm::{Event, MsgClass, Perm, Role, Word};
+use crate::states::StateNames;
+use pg_perm::{DirKind, Event, Left, MsgClass, Perm, Role, Who, Word};
 
 /// A line in one of the forms of a text. Its names are still words, which may be declared nowhere.
 #[derive(Debug, Drop)]
@@ -16,6 +17,11 @@ pub enum Line<'a> {
         perm: Perm,
         clean: bool,
     },
+    Dir {
+        name: Word,
+        kind: DirKind,
+        beside: StateNames<'a>,
+    },
     Message {
         name: Word,
         class: MsgClass,
@@ -24,6 +30,17 @@ pub enum Line<'a> {
         state: Word,
         event: Event,
         shape: CoreShape<'a>,
+    },
+    Take {
+        state: Word,
+        forward: Word,
+        reply: Option<Word>,
+        next: Word,
+    },
+    Row {
+        dir: Word,
+        shape: RowShape,
+        next: Word,
     },
     End,
 }
@@ -37,6 +54,22 @@ pub enum CoreShape<'a> {
     Ask { request: Word, pairs: NamePairs<'a> },
     /// The request of an evict.
     Leave { request: Word },
+}
+
+/// What stands between the directory state of a row line and its next state.
+#[derive(Debug, Drop)]
+pub enum RowShape {
+    /// A request, who sends it, and a reply, a forward or `count`.
+    Ask {
+        request: Word,
+        who: Who,
+        action: Word,
+    },
+    /// `evict`, who sends it, and whether sharers are left.
+    Evict {
+        who: Who,
+        left: Left,
+    },
 }
 
 /// The kinds of lines, in the order in which they stand in a text.
@@ -82,12 +115,15 @@ impl Line<'_> {
         match self {
             Line::Protocol { .. } => Kind::Protocol,
             Line::Cache { .. } => Kind::Cache,
+            Line::Dir { .. } => Kind::Dir,
             Line::Message { class, .. } => match class {
                 MsgClass::Request(_) => Kind::Request,
                 MsgClass::Forward(_) => Kind::Forward,
                 MsgClass::Reply => Kind::Reply,
             },
             Line::Core { .. } => Kind::Core,
+            Line::Take { .. } => Kind::Take,
+            Line::Row { .. } => Kind::Row,
             Line::End => Kind::End,
         }
     }

@@ -1,13 +1,18 @@
 ghost use Rattle.std.specs.Prelude.{◌≡◌};
+ghost use Rattle.std.specs.List.{list_all};
 ghost use Rattle.std.specs.Option.{option_map};
-ghost use Rattle.pg_perm.specs.Names.{is_name as is_name_of};
+ghost use Rattle.pg_perm.specs.Names.{is_state_name as is_state_name_of};
 ghost use Rattle.pg_text.specs.Pairs.{are_pairs as are_pairs_of};
 ghost use Rattle.pg_text.specs.Reading as forms;
 
-use crate::line::{CoreShape, Line};
+use crate::line::{CoreShape, Line, RowShape};
 use crate::pairs::NamePairs;
+use crate::states::StateNames;
 use crate::words::Words;
-use pg_perm::{Event, MsgClass, Perm, ReqClass, Role, Word, is_name, is_state_name};
+use pg_perm::{
+    DirKind, Event, FwdClass, Left, MsgClass, Perm, ReqClass, Role, Who, Word, is_name,
+    is_state_name,
+};
 
 fn role_of(word: &[u8]) -> Option<Role>
     ensures { result ≡ forms.role_of word.now }
@@ -48,6 +53,77 @@ fn request_of(word: &[u8]) -> Option<ReqClass>
         Some(ReqClass::Clean)
     } else if word == b"dirty".as_slice() {
         Some(ReqClass::Dirty)
+    } else {
+        None
+    }
+}
+
+fn dir_kind_of(word: &[u8]) -> Option<DirKind>
+    ensures { result ≡ forms.dir_kind_of word.now }
+{
+    if word == b"idle".as_slice() {
+        Some(DirKind::Idle)
+    } else if word == b"shared".as_slice() {
+        Some(DirKind::Shared)
+    } else if word == b"owned".as_slice() {
+        Some(DirKind::Owned)
+    } else if word == b"mixed".as_slice() {
+        Some(DirKind::Mixed)
+    } else {
+        None
+    }
+}
+
+fn forward_of(word: &[u8]) -> Option<FwdClass>
+    ensures { result ≡ forms.forward_of word.now }
+{
+    if word == b"inv".as_slice() {
+        Some(FwdClass::Inv)
+    } else if word == b"share".as_slice() {
+        Some(FwdClass::Share)
+    } else if word == b"keep".as_slice() {
+        Some(FwdClass::Keep)
+    } else if word == b"drop".as_slice() {
+        Some(FwdClass::Drop)
+    } else {
+        None
+    }
+}
+
+fn who_of(word: &[u8]) -> Option<Who>
+    ensures { result ≡ forms.who_of word.now }
+{
+    if word == b"other".as_slice() {
+        Some(Who::Other)
+    } else if word == b"sharer".as_slice() {
+        Some(Who::Sharer)
+    } else if word == b"owner".as_slice() {
+        Some(Who::Owner)
+    } else {
+        None
+    }
+}
+
+/// Who may evict.
+fn holder_of(word: &[u8]) -> Option<Who>
+    ensures { result ≡ forms.holder_of word.now }
+{
+    if word == b"sharer".as_slice() {
+        Some(Who::Sharer)
+    } else if word == b"owner".as_slice() {
+        Some(Who::Owner)
+    } else {
+        None
+    }
+}
+
+fn left_of(word: &[u8]) -> Option<Left>
+    ensures { result ≡ forms.left_of word.now }
+{
+    if word == b"last".as_slice() {
+        Some(Left::Last)
+    } else if word == b"more".as_slice() {
+        Some(Left::More)
     } else {
         None
     }
@@ -138,6 +214,52 @@ fn cache_line<'a>(words: &Words<'a>) -> Option<Line<'a>>
         role,
         perm,
         clean,
+    })
+}
+
+/// Whether the words are all names of states.
+fn are_states(words: &Words) -> bool
+    ensures { result ≡ list_all is_state_name_of words.now }
+{
+    let mut left = words.again();
+    while let Some((name, rest)) = left.first() {
+        if !is_state_name(name) {
+            return false;
+        }
+        left = rest;
+    }
+    true
+}
+
+#[tactic(auto, unfolding(crate::specs::Reading::dir_line))]
+fn dir_line<'a>(words: &Words<'a>) -> Option<Line<'a>>
+    ensures { result ≡ forms.dir_line words.now }
+{
+    let (name, rest) = state_at(words)?;
+    let (word, rest) = rest.first()?;
+    let kind = dir_kind_of(word)?;
+    if are_states(&rest) {
+        Some(Line::Dir {
+            name,
+            kind,
+            beside: StateNames::new(rest),
+        })
+    } else {
+        None
+    }
+}
+
+#[tactic(auto, unfolding(crate::specs::Reading::forward_line))]
+fn forward_line<'a>(words: &Words<'a>) -> Option<Line<'a>>
+    ensures { result ≡ forms.forward_line words.now }
+{
+    let (name, rest) = name_at(words)?;
+    let (word, rest) = rest.first()?;
+    let class = forward_of(word)?;
+    ended(&rest)?;
+    Some(Line::Message {
+        name,
+        class: MsgClass::Forward(class),
     })
 }
 
@@ -271,6 +393,113 @@ fn core_line<'a>(words: &Words<'a>) -> Option<Line<'a>>
     })
 }
 
+/// A take line from its reply on, where it has one.
+fn take_line_end<'a>(state: Word, forward: Word, words: &Words<'a>) -> Option<Line<'a>>
+    ensures { result ≡ forms.take_line_end state forward words.now }
+{
+    let (first, rest) = words.first()?;
+    match rest.first() {
+        None => take_silent(state, forward, first),
+        Some((second, rest)) => match rest.first() {
+            None => take_replying(state, forward, first, second),
+            Some(_) => None,
+        },
+    }
+}
+
+fn take_silent<'a>(state: Word, forward: Word, next: &[u8]) -> Option<Line<'a>>
+    ensures { result ≡ forms.take_silent state forward next.now }
+{
+    if is_state_name(next) {
+        Some(Line::Take {
+            state,
+            forward,
+            reply: None,
+            next: Word::new(next),
+        })
+    } else {
+        None
+    }
+}
+
+fn take_replying<'a>(state: Word, forward: Word, reply: &[u8], next: &[u8]) -> Option<Line<'a>>
+    ensures { result ≡ forms.take_replying state forward reply.now next.now }
+{
+    if is_name(reply) && is_state_name(next) {
+        Some(Line::Take {
+            state,
+            forward,
+            reply: Some(Word::new(reply)),
+            next: Word::new(next),
+        })
+    } else {
+        None
+    }
+}
+
+#[tactic(auto, unfolding(crate::specs::Reading::take_line))]
+fn take_line<'a>(words: &Words<'a>) -> Option<Line<'a>>
+    ensures { result ≡ forms.take_line words.now }
+{
+    let (state, rest) = state_at(words)?;
+    let (forward, rest) = name_at(&rest)?;
+    take_line_end(state, forward, &rest)
+}
+
+#[tactic(auto, unfolding(crate::specs::Reading::asking_row))]
+fn asking_row<'a>(request: &[u8], words: &Words<'a>) -> Option<(RowShape, Words<'a>)>
+    ensures { result ≡ forms.asking_row request.now words.now }
+{
+    let (word, rest) = words.first()?;
+    let who = who_of(word)?;
+    let (action, rest) = name_at(&rest)?;
+    if is_name(request) {
+        Some((
+            RowShape::Ask {
+                request: Word::new(request),
+                who,
+                action,
+            },
+            rest,
+        ))
+    } else {
+        None
+    }
+}
+
+#[tactic(auto, unfolding(crate::specs::Reading::evicting_row))]
+fn evicting_row<'a>(words: &Words<'a>) -> Option<(RowShape, Words<'a>)>
+    ensures { result ≡ forms.evicting_row words.now }
+{
+    let (word, rest) = words.first()?;
+    let who = holder_of(word)?;
+    let (word, rest) = rest.first()?;
+    let left = left_of(word)?;
+    Some((RowShape::Evict { who, left }, rest))
+}
+
+fn row_shape<'a>(word: &[u8], words: &Words<'a>) -> Option<(RowShape, Words<'a>)>
+    ensures { result ≡ forms.row_shape word.now words.now }
+{
+    if word == b"evict".as_slice() {
+        evicting_row(words)
+    } else {
+        asking_row(word, words)
+    }
+}
+
+#[tactic(auto, unfolding(crate::specs::Reading::row_line))]
+fn row_line<'a>(words: &Words<'a>) -> Option<Line<'a>>
+    ensures { result ≡ forms.row_line words.now }
+{
+    let (dir, rest) = state_at(words)?;
+    let (word, rest) = rest.first()?;
+    let (shape, rest) = row_shape(word, &rest)?;
+    let (next, rest) = state_at(&rest)?;
+    ended(&rest)?;
+    Some(Line::Row { dir, shape, next })
+}
+
 #[tactic(auto, unfolding(crate::specs::Reading::end_line))]
 fn end_line<'a>(words: &Words<'a>) -> Option<Line<'a>>
     ensures { result ≡ forms.end_line words.now }
@@ -286,12 +515,20 @@ fn line_after<'a>(word: &[u8], words: &Words<'a>) -> Option<Line<'a>>
         protocol_line(words)
     } else if word == b"cache".as_slice() {
         cache_line(words)
+    } else if word == b"dir".as_slice() {
+        dir_line(words)
     } else if word == b"request".as_slice() {
         request_line(words)
+    } else if word == b"forward".as_slice() {
+        forward_line(words)
     } else if word == b"reply".as_slice() {
         reply_line(words)
     } else if word == b"core".as_slice() {
         core_line(words)
+    } else if word == b"take".as_slice() {
+        take_line(words)
+    } else if word == b"row".as_slice() {
+        row_line(words)
     } else if word == b"end".as_slice() {
         end_line(words)
     } else {
