@@ -6,7 +6,7 @@ use Rattle.pg_perm.specs.declared.fault.Rule.{Rule}
 use Rattle.pg_perm.specs.declared.fault.Rule.TheVariants.{F1, F2, F3, F4, F5, F6}
 use Rattle.pg_text.specs.declared.line.Kind.{Kind}
 use Rattle.pg_text.specs.declared.line.Line.{Line}
-use Rattle.pg_text.specs.Lines.{words_of}
+use Rattle.pg_lines.specs.Lines.{words_of}
 use Rattle.pg_text.specs.Kinds.{kind_of}
 use Rattle.pg_text.specs.Reading.{line_of}
 use Rattle.pg_text.specs.Numbering.{with_line, is_taken, is_full}

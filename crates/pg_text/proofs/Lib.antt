@@ -1,4 +1,3 @@
-pub mod Cuts
 pub mod Firsts
 pub mod Numbers
 pub mod Options
@@ -7,4 +6,3 @@ pub mod Judging
 pub mod Faults
 pub mod Progress
 pub mod Unique
-pub mod Places

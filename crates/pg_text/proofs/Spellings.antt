@@ -29,7 +29,7 @@ use Rattle.pg_text.specs.declared.line.RowShape.{RowShape}
 use Rattle.pg_text.specs.declared.line.RowShape.TheVariants as row
 use Rattle.pg_text.specs.declared.line.CoreShape.{CoreShape}
 use Rattle.pg_text.specs.declared.line.CoreShape.TheVariants.{Hit, Ask, Leave}
-use Rattle.pg_text.specs.Lines.{first_rest}
+use Rattle.pg_lines.specs.Lines.{first_rest}
 use Rattle.pg_text.specs.Forms.{role_word, perm_word, request_word, event_word, dir_word, forward_word, who_word, left_word}
 use Rattle.pg_text.specs.Forms.{shape_words, spelling, IsShapeOf, IsRowShape, IsWellNamed}
 use Rattle.std.specs.List.{list_all}
@@ -39,7 +39,7 @@ use Rattle.pg_text.specs.Reading.{name_at, state_at, ended, protocol_line, clean
 use Rattle.pg_text.specs.Reading.{cache_line, dir_line, request_line, forward_line, reply_line, asking_shape, leaving_shape, shape_of, core_line}
 use Rattle.pg_text.specs.Reading.{take_line_end, take_line, asking_row, evicting_row, row_shape, row_line, end_line, line_after, line_of}
 use Rattle.pg_text.proofs.Options.{then_some, told, told_apart, same_word, other_word, nothing_found}
-use Rattle.pg_text.proofs.Firsts.{first_rest_is}
+use Rattle.pg_lines.proofs.Firsts.{first_rest_is}
 
 -- a word that is read as a role is the word of that role
 role_found : (w : List ℕ) (r : Role) → role_of w ≡ Some r → w ≡ role_word r

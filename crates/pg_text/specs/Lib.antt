@@ -1,4 +1,3 @@
-pub mod Lines
 pub mod Pairs
 pub mod Forms
 pub mod Reading
@@ -8,4 +7,5 @@ pub mod Numbering
 pub mod FormFaults
 pub mod Texts
 pub mod Answers
+pub mod Printing
 pub mod Worked

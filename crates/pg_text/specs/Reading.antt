@@ -25,7 +25,7 @@ use Rattle.pg_text.specs.declared.line.RowShape.{RowShape}
 use Rattle.pg_text.specs.declared.line.RowShape.TheVariants as row
 use Rattle.pg_text.specs.declared.line.CoreShape.{CoreShape}
 use Rattle.pg_text.specs.declared.line.CoreShape.TheVariants.{Hit, Ask, Leave}
-use Rattle.pg_text.specs.Lines.{first_rest}
+use Rattle.pg_lines.specs.Lines.{first_rest}
 use Rattle.pg_text.specs.Pairs.{are_pairs, pairs_in}
 
 -- what the value of an option leads to

@@ -1,5 +1,5 @@
 -- What a text says, and where it ends.
-use Rattle.std.specs.Prelude.{ℕ, zero, suc, ◌≡◌, ◌+◌, ◌-◌, Bool, true, false, nat_lt, List, [], ◌∷◌, length, Option, Some, None, Result, Ok, Err, if◌then◌else◌}
+use Rattle.std.specs.Prelude.{ℕ, ◌≡◌, ◌+◌, Bool, true, false, nat_lt, List, [], ◌∷◌, length, Option, Some, None, Result, Ok, Err, if◌then◌else◌}
 use Rattle.std.specs.Option.{option_map_or}
 use Rattle.pg_perm.specs.declared.draft.Draft.{Draft}
 use Rattle.pg_perm.specs.declared.fault.Fault.{Fault}
@@ -7,20 +7,11 @@ use Rattle.pg_perm.specs.declared.fault.Rule.{Rule}
 use Rattle.pg_perm.specs.declared.fault.Rule.TheVariants.{F1, F2, F3, F4, F5, F6}
 use Rattle.pg_text.specs.declared.line.Kind.{Kind}
 use Rattle.pg_text.specs.declared.line.Line.{Line}
-use Rattle.pg_text.specs.Lines.{lines_of, words_of, first_line}
+use Rattle.pg_lines.specs.Lines.{lines_of, words_of, place_behind}
 use Rattle.pg_text.specs.Kinds.{kind_of, is_end}
 use Rattle.pg_text.specs.Reading.{line_of}
 use Rattle.pg_text.specs.Numbering.{with_line, is_taken, is_full}
 use Rattle.pg_text.specs.FormFaults.{Above, nothing, is_out_of_order, ends, after, Breaks}
-
--- the bytes behind the first line
-abbrev pub behind_line : List ℕ → List ℕ
-behind_line bytes = option_map_or (λ p. p.1) (first_line bytes) []
-
--- the bytes behind the first n lines
-abbrev pub behind : ℕ → List ℕ → List ℕ
-behind zero bytes = bytes
-behind (suc n) bytes = behind_line (behind n bytes)
 
 -- a draft that is there is one that a line adds to, where there aren't as many lines of its kind as there may be
 abbrev pub within : Option Draft → Bool → Result Draft Rule
@@ -65,10 +56,6 @@ read_on n false (Ok above) go_on = go_on above
 abbrev pub read_lines : Above → ℕ → List (List ℕ) → Result (Draft × ℕ) Fault
 read_lines above n [] = Err (record { line = n; rule = F6 })
 read_lines above n (line ∷ lines) = read_on n (ends line) (judge above n line) (λ more. read_lines more (n + 1) lines)
-
--- the place behind line n, in bytes
-abbrev pub place_behind : ℕ → List ℕ → ℕ
-place_behind n bytes = length bytes - length (behind n bytes)
 
 -- the draft with the place behind line n in place of n
 abbrev pub placed : List ℕ → Result (Draft × ℕ) Fault → Result (Draft × ℕ) Fault

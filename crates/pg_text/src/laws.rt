@@ -1,6 +1,6 @@
 //! Laws of the definitions that the contracts of this crate cite.
 
-ghost use Rattle.std.specs.Prelude.{◌≡◌, ◌↔◌, ℕ, List, [], codes, drop};
+ghost use Rattle.std.specs.Prelude.{◌≡◌, ◌↔◌, ℕ, List, [], codes};
 ghost use Rattle.pg_perm.specs.declared.draft.Draft.{Draft};
 ghost use Rattle.pg_perm.specs.declared.fault.Fault.{Fault};
 ghost use Rattle.pg_perm.specs.Drafts.{IsWellFormed};
@@ -8,8 +8,8 @@ ghost use Rattle.pg_text.specs.declared.line.Line.{Line};
 ghost use Rattle.pg_text.specs.Forms.{spelling, IsWellNamed};
 ghost use Rattle.pg_text.specs.FormFaults.{IsFormFault};
 ghost use Rattle.pg_text.specs.Reading.{line_of};
-ghost use Rattle.pg_text.specs.Texts.{reading, behind, place_behind, IsText};
-ghost use Rattle.pg_text.specs.Lines.{lines_of};
+ghost use Rattle.pg_text.specs.Texts.{reading, IsText};
+ghost use Rattle.pg_text.specs.Printing.{printed, renumbered};
 ghost use Rattle.pg_text.specs.Worked.{worked_draft};
 
 use pg_perm::Rule;
@@ -25,12 +25,6 @@ pub fn forms_are_exact()
 pub fn first_fault_is_exact()
     ensures fault { (bytes : List ℕ) (f : Fault) → (reading bytes ≡ Err f) ↔ IsFormFault bytes f }
     ensures text { (bytes : List ℕ) (d : Draft) (place : ℕ) → (reading bytes ≡ Ok (d, place)) ↔ IsText bytes d place }
-{}
-
-/// The place behind line `n` is where the lines from there on begin.
-pub fn places_are_exact()
-    ensures lines { (n : ℕ) (bytes : List ℕ) → lines_of (behind n bytes) ≡ drop n (lines_of bytes) }
-    ensures place { (n : ℕ) (bytes : List ℕ) → behind n bytes ≡ drop (place_behind n bytes) bytes }
 {}
 
 /// What the rules say of small texts, one for each way to break one, and what one says that breaks none.
@@ -53,4 +47,6 @@ pub fn worked_texts()
     ensures text { reading (codes "protocol P\ncache I out none\ncache S shared read\nrequest GetS read\nrequest PutS clean\nreply Data data\ncore I load GetS Data S\ncore S load hit\ncore S evict PutS\nend\ncores 2\n")
         ≡ Ok (worked_draft, 163) }
     ensures well_formed { IsWellFormed worked_draft }
+    ensures printed { printed worked_draft ≡ codes "protocol P\ncache I out none\ncache S shared read\nrequest GetS read\nrequest PutS clean\nreply Data data\ncore I load GetS Data S\ncore S load hit\ncore S evict PutS\nend\n" }
+    ensures renumbered { renumbered worked_draft ≡ worked_draft }
 {}

@@ -1,7 +1,7 @@
 ghost use Rattle.std.specs.Prelude.{◌≡◌, IsTrue};
 ghost use Rattle.pg_text.specs.Pairs.{are_pairs, pairs_in, first_pair};
 
-use crate::words::Words;
+use pg_lines::Words;
 use pg_perm::Word;
 use std::marker::Model;
 

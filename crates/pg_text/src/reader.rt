@@ -7,7 +7,7 @@ use crate::drafting::Drafting;
 use crate::error::LineError;
 use crate::line::Kind;
 use crate::reading::line_of;
-use crate::words::Words;
+use pg_lines::Words;
 use pg_perm::{Draft, Rule};
 use std::alloc::Global;
 use std::marker::Model;

@@ -8,7 +8,7 @@ ghost use Rattle.pg_text.specs.Reading as forms;
 use crate::line::{CoreShape, Line, RowShape};
 use crate::pairs::NamePairs;
 use crate::states::StateNames;
-use crate::words::Words;
+use pg_lines::Words;
 use pg_perm::{
     DirKind, Event, FwdClass, Left, MsgClass, Perm, ReqClass, Role, Who, Word, is_name,
     is_state_name,

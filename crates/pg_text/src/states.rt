@@ -1,9 +1,9 @@
 ghost use Rattle.std.specs.Prelude.{◌≡◌, IsTrue};
 ghost use Rattle.std.specs.List.{list_all};
 ghost use Rattle.pg_perm.specs.Names.{is_state_name};
-ghost use Rattle.pg_text.specs.Lines.{first_rest};
+ghost use Rattle.pg_lines.specs.Lines.{first_rest};
 
-use crate::words::Words;
+use pg_lines::Words;
 use pg_perm::Word;
 use std::marker::Model;
 

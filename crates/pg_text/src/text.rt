@@ -5,8 +5,8 @@ ghost use Rattle.pg_text.specs.Texts.{reading, IsText};
 ghost use Rattle.pg_text.specs.Answers.{Gives};
 
 use crate::error::TextError;
-use crate::lines::split_line;
 use crate::reader::Reader;
+use pg_lines::split_line;
 use pg_perm::{Draft, Fault, Rule};
 use std::alloc::Global;
 

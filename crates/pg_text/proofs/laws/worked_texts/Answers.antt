@@ -57,3 +57,9 @@ returns-clause-text c = refl
 
 pub returns-clause-well_formed : goal.returns-clause-well_formed
 returns-clause-well_formed c = record { names = refl; free = refl; numbers = refl; classes = refl; lines = refl; limits = refl }
+
+pub returns-clause-printed : goal.returns-clause-printed
+returns-clause-printed c = refl
+
+pub returns-clause-renumbered : goal.returns-clause-renumbered
+returns-clause-renumbered c = refl

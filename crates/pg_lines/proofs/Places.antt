@@ -4,9 +4,8 @@ use Rattle.std.specs.Option.{option_map, option_map_or}
 use Rattle.std.specs.Prelude.{position, ◌==◌}
 use Rattle.std.proofs.Math.Seq.{drop-append_seam}
 use Rattle.std.proofs.lemmas.List.{take-append-drop}
-use Rattle.pg_text.specs.Lines.{lines_of, first_line, line_of_cut}
-use Rattle.pg_text.specs.Texts.{behind, behind_line, place_behind}
-use Rattle.pg_text.proofs.Progress.{lines_of-first, lines_of-none}
+use Rattle.pg_lines.specs.Lines.{lines_of, first_line, line_of_cut, behind, behind_line, place_behind}
+use Rattle.pg_lines.proofs.Steps.{lines_of-first, lines_of-none}
 
 -- behind one line are the other lines
 behind_line-lines : (bytes : List ℕ) → lines_of (behind_line bytes) ≡ drop 1 (lines_of bytes)

@@ -1,5 +1,5 @@
-use Rattle.pg_text.proofs.Places.{behind-lines, behind-place}
-use Rattle.pg_text.proofs.laws.places_are_exact.Goals as goal
+use Rattle.pg_lines.proofs.Places.{behind-lines, behind-place}
+use Rattle.pg_lines.proofs.laws.places_are_exact.Goals as goal
 
 pub returns-clause-lines : goal.returns-clause-lines
 returns-clause-lines c = behind-lines

@@ -1,6 +1,6 @@
 ghost use Rattle.std.specs.Prelude.{◌≡◌};
 ghost use Rattle.std.specs.Option.{option_map};
-ghost use Rattle.pg_text.specs.Lines.{first_line};
+ghost use Rattle.pg_lines.specs.Lines.{first_line};
 
 use crate::cut::cut;
 

@@ -5,7 +5,7 @@ use Rattle.std.specs.Borrow.{Bor}
 use Rattle.std.specs.Option.{option_map}
 use Rattle.std.proofs.lemmas.List.Splits.{slice_split_first}
 use Rattle.std.proofs.lemmas.Bool.{ltb-true, ltb-false}
-use Rattle.pg_text.specs.Lines.{cut_at, words_left, words_of, first_rest}
+use Rattle.pg_lines.specs.Lines.{cut_at, words_left, words_of, first_rest}
 
 -- where no element passes, the list is the one part
 split_missing : {X : Type 0} (p : X → Bool) (xs : List X) → length xs ≤ position_or_len p xs → slice_split p xs ≡ xs ∷ []

@@ -1,6 +1,6 @@
 ghost use Rattle.std.specs.Prelude.{◌≡◌, is_none, [], ◌∷◌};
 ghost use Rattle.std.specs.Option.{option_map};
-ghost use Rattle.pg_text.specs.Lines.{words_of, first_rest};
+ghost use Rattle.pg_lines.specs.Lines.{words_of, first_rest};
 
 use crate::cut::cut;
 use std::marker::Model;
@@ -14,7 +14,7 @@ pub struct Words<'a> {
 
 impl<'a> Model for Words<'a> {
     ghost use Rattle.std.specs.Prelude.{List, ℕ};
-    ghost use Rattle.pg_text.specs.Lines.{words_left};
+    ghost use Rattle.pg_lines.specs.Lines.{words_left};
 
     ghost Value = { List (List ℕ) };
 

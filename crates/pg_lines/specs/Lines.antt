@@ -1,6 +1,7 @@
-use Rattle.std.specs.Prelude.{ℕ, ◌==◌, ◌+◌, List, [], ◌∷◌, take, drop, Option, Some, None, position}
-use Rattle.std.specs.List.{slice_split}
-use Rattle.std.specs.Option.{option_map}
+-- The lines of a text, and the words of a line.
+use Rattle.std.specs.Prelude.{ℕ, zero, suc, ◌==◌, ◌+◌, ◌-◌, List, [], ◌∷◌, ◌++◌, length, take, drop, Option, Some, None, position}
+use Rattle.std.specs.List.{slice_split, join_with_byte, flat_map}
+use Rattle.std.specs.Option.{option_map, option_map_or}
 use Rattle.std.specs.Borrow.{Bor}
 
 -- the parts without an empty last one: nothing after the last newline is no line
@@ -40,3 +41,24 @@ line_of_cut bytes (Some p) = Some p
 abbrev pub first_line : List ℕ → Option (List ℕ × List ℕ)
 first_line [] = None
 first_line (b ∷ bs) = line_of_cut (b ∷ bs) (cut_at 10 (b ∷ bs))
+
+-- the bytes behind the first line
+abbrev pub behind_line : List ℕ → List ℕ
+behind_line bytes = option_map_or (λ p. p.1) (first_line bytes) []
+
+-- the bytes behind the first n lines
+abbrev pub behind : ℕ → List ℕ → List ℕ
+behind zero bytes = bytes
+behind (suc n) bytes = behind_line (behind n bytes)
+
+-- the place behind line n, in bytes
+abbrev pub place_behind : ℕ → List ℕ → ℕ
+place_behind n bytes = length bytes - length (behind n bytes)
+
+-- a line of words: single spaces part them, and a newline ends it
+abbrev pub line_text : List (List ℕ) → List ℕ
+line_text ws = join_with_byte 32 ws ++ 10 ∷ []
+
+-- a text of lines of words
+abbrev pub text_of : List (List (List ℕ)) → List ℕ
+text_of lines = flat_map line_text lines
