@@ -1,5 +1,6 @@
 use Rattle.std.proofs.Common.{sym, arith}
-use Rattle.pg_text.proofs.Progress.{error_at, end_at, next_at, length-rest}
+use Rattle.pg_text.proofs.Progress.{error_at, end_at, next_at}
+use Rattle.pg_lines.proofs.Steps.{length-rest}
 use Rattle.pg_text.proofs.text.read_lines.Goals as goal
 
 pub returns-in-Err : goal.returns-in-Err
