@@ -1,4 +1,5 @@
 pub mod Firsts
+pub mod Joining
 pub mod Numbers
 pub mod Options
 pub mod Spellings

@@ -1,18 +1,22 @@
-//! Reads the text of a protocol.
+//! Reads the text of a protocol, and prints it.
 #![tactic(auto)]
 
 mod drafting;
 mod error;
+mod keywords;
 mod laws;
 mod line;
 mod pairs;
+mod printer;
 mod reader;
 mod reading;
+mod spelled;
 mod states;
 mod text;
 
 pub use error::TextError;
 pub use laws::{first_fault_is_exact, forms_are_exact, worked_texts};
+pub use printer::print;
 pub use text::read;
 
 #[cfg(test)]
