@@ -21,14 +21,17 @@ without_empty_last-cons : (x y : List ℕ) (ys : List (List ℕ)) → without_em
 without_empty_last-cons [] y ys = refl
 without_empty_last-cons (c ∷ cs) y ys = refl
 
+-- a line before other bytes is the first line, also where nothing stands behind it
+pub lines_behind : (line rest : List ℕ) → without_empty_last (line ∷ slice_split (λ c. c == 10) rest) ≡ line ∷ lines_of rest
+lines_behind line rest =
+    let part = some_part (λ c. c == 10) rest in
+    ap (λ ps. without_empty_last (line ∷ ps)) part.2 ∙ without_empty_last-cons line part.0 part.1 ∙ ap (λ ps. line ∷ without_empty_last ps) (sym part.2)
+
 -- the lines, when the first is cut off
 lines_by_cut : (b : ℕ) (bs : List ℕ) (o : Option (List ℕ × List ℕ)) (line rest : List ℕ) → Some (line, rest) ≡ line_of_cut (b ∷ bs) o
     → without_empty_last (parts_of_cut 10 (b ∷ bs) o) ≡ line ∷ lines_of rest
 lines_by_cut b bs None line rest h = ap (λ (p : List ℕ × List ℕ). p.0 ∷ lines_of p.1) (sym (same_Some (line, rest) (b ∷ bs, []) h))
-lines_by_cut b bs (Some p) line rest h =
-    let part = some_part (λ c. c == 10) p.1 in
-    ap (λ ps. without_empty_last (p.0 ∷ ps)) part.2 ∙ without_empty_last-cons p.0 part.0 part.1 ∙ ap (λ ps. p.0 ∷ without_empty_last ps) (sym part.2)
-    ∙ ap (λ (q : List ℕ × List ℕ). q.0 ∷ lines_of q.1) (sym (same_Some (line, rest) p h))
+lines_by_cut b bs (Some p) line rest h = lines_behind p.0 p.1 ∙ ap (λ (q : List ℕ × List ℕ). q.0 ∷ lines_of q.1) (sym (same_Some (line, rest) p h))
 
 pub lines_of-first : (bytes line rest : List ℕ) → Some (line, rest) ≡ first_line bytes → lines_of bytes ≡ line ∷ lines_of rest
 lines_of-first [] line rest h = cc

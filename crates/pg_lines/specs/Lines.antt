@@ -1,6 +1,6 @@
 -- The lines of a text, and the words of a line.
-use Rattle.std.specs.Prelude.{ℕ, zero, suc, ◌==◌, ◌+◌, ◌-◌, List, [], ◌∷◌, ◌++◌, length, take, drop, Option, Some, None, position}
-use Rattle.std.specs.List.{slice_split, join_with_byte, flat_map}
+use Rattle.std.specs.Prelude.{ℕ, zero, suc, Bool, not, ◌&&◌, ◌==◌, ◌+◌, ◌-◌, List, [], ◌∷◌, ◌++◌, length, take, drop, Option, Some, None, position}
+use Rattle.std.specs.List.{slice_split, join_with_byte, flat_map, list_all}
 use Rattle.std.specs.Option.{option_map, option_map_or}
 use Rattle.std.specs.Borrow.{Bor}
 
@@ -62,3 +62,11 @@ line_text ws = join_with_byte 32 ws ++ 10 ∷ []
 -- a text of lines of words
 abbrev pub text_of : List (List (List ℕ)) → List ℕ
 text_of lines = flat_map line_text lines
+
+-- neither a space nor a newline
+abbrev pub is_plain : ℕ → Bool
+is_plain b = not (b == 32) && not (b == 10)
+
+-- no word holds a space or a newline
+abbrev pub are_plain : List (List ℕ) → Bool
+are_plain ws = list_all (list_all is_plain) ws
