@@ -1,6 +1,6 @@
 //! Laws of the definitions that the contracts of this crate cite.
 
-ghost use Rattle.std.specs.Prelude.{◌≡◌, ◌↔◌, ℕ, List, [], codes};
+ghost use Rattle.std.specs.Prelude.{◌≡◌, ◌↔◌, ℕ, List, [], codes, length};
 ghost use Rattle.pg_perm.specs.declared.draft.Draft.{Draft};
 ghost use Rattle.pg_perm.specs.declared.fault.Fault.{Fault};
 ghost use Rattle.pg_perm.specs.Drafts.{IsWellFormed};
@@ -49,4 +49,9 @@ pub fn worked_texts()
     ensures well_formed { IsWellFormed worked_draft }
     ensures printed { printed worked_draft ≡ codes "protocol P\ncache I out none\ncache S shared read\nrequest GetS read\nrequest PutS clean\nreply Data data\ncore I load GetS Data S\ncore S load hit\ncore S evict PutS\nend\n" }
     ensures renumbered { renumbered worked_draft ≡ worked_draft }
+{}
+
+/// The text of a well-formed draft is read as that draft, with its lines numbered from 1.
+pub fn printing_is_exact()
+    ensures back { (d : Draft) → IsWellFormed d → reading (printed d) ≡ Ok (renumbered d, length (printed d)) }
 {}

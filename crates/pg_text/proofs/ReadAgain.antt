@@ -1,0 +1,1 @@
+-- The text of a well-formed draft is read as that draft.
