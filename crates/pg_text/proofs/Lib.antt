@@ -11,3 +11,4 @@ pub mod NumbersAgain
 pub mod Plain
 pub mod WellNamed
 pub mod ReadAgain
+pub mod Adding
