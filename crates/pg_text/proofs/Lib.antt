@@ -12,3 +12,4 @@ pub mod Plain
 pub mod WellNamed
 pub mod ReadAgain
 pub mod Adding
+pub mod Printed
