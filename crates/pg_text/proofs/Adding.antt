@@ -1,8 +1,7 @@
 -- Each line of a well-formed draft may be added to the draft of the lines before it.
-use Rattle.std.proofs.Common.{◌≡◌, ℕ, ◌+◌, ◌≤◌, ◌<◌, Bool, true, false, List, [], ◌∷◌, ◌++◌, length, map, Option, Some, None, is_some, refl, ap, subst, sym, ◌∙◌, arith, bytes_eq, length-append}
-use Rattle.std.specs.Prelude.{◌&&◌, ◌||◌, not, nat_le}
+use Rattle.std.proofs.Common.{◌≡◌, ℕ, ◌+◌, ◌≤◌, Bool, true, false, List, [], ◌∷◌, ◌++◌, length, map, Option, Some, None, is_some, refl, ap, sym, ◌∙◌, arith, bytes_eq, length-append}
+use Rattle.std.specs.Prelude.{◌&&◌, not, nat_le}
 use Rattle.std.specs.List.{list_all, list_any}
-use Rattle.std.specs.Option.{option_map}
 use Rattle.std.proofs.lemmas.Bool.{and_parts, or_parts, or_from, not-true, lt-leb, leb-true}
 use Rattle.std.proofs.lemmas.Cmp.{nat_list_eq_equiv}
 use Rattle.std.proofs.lemmas.List.{length-map}
@@ -19,23 +18,20 @@ use Rattle.pg_perm.specs.declared.draft.MsgClass.TheVariants as class
 use Rattle.pg_perm.specs.declared.draft.CoreLine.{CoreLine}
 use Rattle.pg_perm.specs.declared.draft.CoreForm.{CoreForm}
 use Rattle.pg_perm.specs.declared.draft.CoreForm.TheVariants as form
-use Rattle.pg_perm.specs.declared.draft.Pair.{Pair}
 use Rattle.pg_perm.specs.declared.draft.TakeLine.{TakeLine}
 use Rattle.pg_perm.specs.declared.draft.RowLine.{RowLine}
 use Rattle.pg_perm.specs.declared.draft.RowForm.{RowForm}
 use Rattle.pg_perm.specs.declared.draft.RowForm.TheVariants as rows
-use Rattle.pg_perm.specs.Drafts.{cache_names, dir_names, message_names, taken_names, rule_lines, are_distinct, has_names, has_free_names, has_numbers, has_limits, has_cache, has_core, has_take, has_row, pair_count, IsWellFormed}
-use Rattle.pg_text.specs.declared.line.Kind.{Kind}
-use Rattle.pg_text.specs.declared.line.Line.{Line}
+use Rattle.pg_perm.specs.Drafts.{cache_names, dir_names, message_names, taken_names, rule_lines, are_distinct, has_free_names, has_numbers, has_limits, has_cache, has_core, has_take, has_row, pair_count}
 use Rattle.pg_text.specs.declared.line.Line.TheVariants as line
 use Rattle.pg_text.specs.Forms.{spelling, shape_words}
 use Rattle.pg_text.specs.Pairs.{words_in}
 use Rattle.pg_text.specs.Kinds.{kind_of, is_protocol, is_end}
 use Rattle.pg_text.specs.Numbering.{put_dir, put_core, put_take, put_row}
-use Rattle.pg_text.specs.Printing.{numbered, cache_name, pair_words, core_shape, row_shape_of, cache_line_of, dir_line_of, message_line_of, core_line_of, take_line_of, row_line_of}
-use Rattle.pg_text.proofs.NumbersAgain.{KnowsCaches, KnowsDirs, KnowsMessages, classes_in, are_free, core_again, states_again, take_again, row_again}
-use Rattle.pg_text.proofs.WellNamed.{NamesAre, names_are, dir_line_named, message_line_named, core_line_named, take_line_named, row_line_named}
-use Rattle.pg_text.proofs.ReadAgain.{IsAdded, AreAdded}
+use Rattle.pg_text.specs.Printing.{numbered, cache_name, pair_words, core_shape, cache_line_of, dir_line_of, message_line_of, core_line_of, take_line_of, row_line_of}
+use Rattle.pg_text.proofs.NumbersAgain.{KnowsCaches, KnowsDirs, KnowsMessages, are_free, core_again, states_again, take_again, row_again}
+use Rattle.pg_text.proofs.WellNamed.{NamesAre, dir_line_named, message_line_named, core_line_named, take_line_named, row_line_named}
+use Rattle.pg_text.proofs.ReadAgain.{AreAdded}
 
 -- an element passes the test that all pass
 inside : {A : Type 0} (p : A → Bool) (xs front : List A) (x : A) (rest : List A) → xs ≡ front ++ x ∷ rest → list_all p xs ≡ true → p x ≡ true
@@ -207,18 +203,17 @@ short_cache c = at c.clean
 -- the cache lines
 pub caches_added : (d : Draft) (from : ℕ) → NamesAre d → NamesFree d → LimitsAre d
     → AreAdded (λ cs. made d cs [] [] [] [] []) cache_line_of cache_at from d.caches
-caches_added d from names free limits front x rest n split =
-    (
-      record {
-        named = named_inside is_state_name (λ (c : CacheLine). c.name) d.caches front x rest split names.caches;
-        short = short_cache x;
-        ended = refl;
-        new = new_name cache_at (λ (c : CacheLine). c.name) from d.caches front x rest (λ n c. refl) split free.caches;
-        adds = refl;
-        room = room_left cache_at from d.caches front x rest 0 16 _ split (omega (arith, limits.caches)) (omega arith);
-      },
-      refl,
-    )
+caches_added d from names free limits front x rest n split = (
+  record {
+    named = named_inside is_state_name (λ (c : CacheLine). c.name) d.caches front x rest split names.caches;
+    short = short_cache x;
+    ended = refl;
+    new = new_name cache_at (λ (c : CacheLine). c.name) from d.caches front x rest (λ n c. refl) split free.caches;
+    adds = refl;
+    room = room_left cache_at from d.caches front x rest 0 16 _ split (omega (arith, limits.caches)) (omega arith);
+  },
+  refl,
+)
 
 -- the dir lines
 pub dirs_added : (d : Draft) (first from : ℕ) → NamesAre d → NamesFree d → NumbersAre d → LimitsAre d
@@ -227,8 +222,7 @@ dirs_added d first from names free numbers limits front x rest n split =
     let e : Draft = made d (numbered cache_at first d.caches) (numbered dir_at from front) [] [] [] [] in
     let there = inside (λ (s : DirLine). list_all (has_cache d) s.beside) d.dirs front x rest split numbers.beside in
     let few = leb-true (length x.beside) 77 (inside (λ (s : DirLine). nat_le (length s.beside) 77) d.dirs front x rest split limits.beside) in
-    let states = states_again e d x.beside (knows_caches d first (numbered dir_at from front) [] [] [] [] free) there in
-    (
+    let states = states_again e d x.beside (knows_caches d first (numbered dir_at from front) [] [] [] [] free) there in (
       record {
         named = dir_line_named d x names (named_inside is_state_name (λ (s : DirLine). s.name) d.dirs front x rest split names.dirs) there;
         short = omega (arith, few, length-map x.beside (cache_name d));
@@ -262,8 +256,7 @@ pub messages_added : (d : Draft) (from : ℕ) (cs : List CacheLine) (ss : List D
     → AreAdded (λ ms. made d cs ss ms [] [] []) message_line_of message_at from d.messages
 messages_added d from cs ss names free limits front x rest n split =
     let free_of : (list_any (bytes_eq x.name) taken_names) ≡ false =
-        not-true _ (named_inside (λ m. not (list_any (bytes_eq m) taken_names)) (λ (m : MsgLine). m.name) d.messages front x rest split free.free) in
-    (
+    not-true _ (named_inside (λ m. not (list_any (bytes_eq m) taken_names)) (λ (m : MsgLine). m.name) d.messages front x rest split free.free) in (
       record {
         named = message_line_named x (named_inside is_name (λ (m : MsgLine). m.name) d.messages front x rest split names.messages);
         short = message_short x;
@@ -296,8 +289,7 @@ cores_added d first second third from names free numbers limits front x rest n s
     let e : Draft = made d cs ss ms ks [] [] in
     let there = inside (has_core d) d.cores front x rest split numbers.cores in
     let few = leb-true (pair_count x.form) 38 (inside (λ (c : CoreLine). nat_le (pair_count c.form) 38) d.cores front x rest split limits.pairs) in
-    let core = core_again e d n x (knows_caches d first ss ms ks [] [] free) (knows_messages d third cs ss ks [] [] free) there in
-    (
+    let core = core_again e d n x (knows_caches d first ss ms ks [] [] free) (knows_messages d third cs ss ks [] [] free) there in (
       record {
         named = core_line_named d x names there;
         short = omega (arith, short_shape d x.form few);
@@ -327,8 +319,7 @@ takes_added d first second third fourth from names free numbers limits front x r
     let ts : List TakeLine = numbered take_at from front in
     let e : Draft = made d cs ss ms ks ts [] in
     let there = inside (has_take d) d.takes front x rest split numbers.takes in
-    let take = take_again e d n x (knows_caches d first ss ms ks ts [] free) (knows_messages d third cs ss ks ts [] free) there in
-    (
+    let take = take_again e d n x (knows_caches d first ss ms ks ts [] free) (knows_messages d third cs ss ks ts [] free) there in (
       record {
         named = take_line_named d x names there;
         short = short_take d x;
@@ -359,8 +350,7 @@ rows_added d first second third fourth fifth from names free numbers limits fron
     let rs : List RowLine = numbered row_at from front in
     let e : Draft = made d cs ss ms ks ts rs in
     let there = inside (has_row d) d.rows front x rest split numbers.rows in
-    let row = row_again e d n x (knows_dirs d second cs ms ks ts rs free) (knows_messages d third cs ss ks ts rs free) there in
-    (
+    let row = row_again e d n x (knows_dirs d second cs ms ks ts rs free) (knows_messages d third cs ss ks ts rs free) there in (
       record {
         named = row_line_named d x names free.free there;
         short = short_row d x;

@@ -1,6 +1,6 @@
 -- The numbers of what a draft names, where they are looked up by their names.
-use Rattle.std.proofs.Common.{◌≡◌, ℕ, zero, suc, ◌<◌, Bool, true, false, List, [], ◌∷◌, length, map, Option, Some, None, refl, ap, sym, ◌∙◌, arith, cond, slice_get, bytes_eq, codes, if◌then◌else◌}
-use Rattle.std.specs.Prelude.{◌&&◌, ◌||◌, not, nat_lt, unwrap_or, IsTrue}
+use Rattle.std.proofs.Common.{◌≡◌, ℕ, zero, suc, ◌<◌, Bool, true, false, List, [], ◌∷◌, length, map, Option, Some, None, refl, ap, sym, ◌∙◌, arith, slice_get, bytes_eq, codes, if◌then◌else◌}
+use Rattle.std.specs.Prelude.{◌&&◌, not, nat_lt}
 use Rattle.std.specs.List.{list_all, list_any}
 use Rattle.std.specs.Option.{option_map, option_map_or}
 use Rattle.std.proofs.lemmas.Bool.{and_parts, or_parts, not-true, ltb-true}
@@ -53,7 +53,7 @@ number_again (n ∷ ns) (suc i) distinct within =
     let parts = and_parts (not (list_any (bytes_eq n) ns)) (are_distinct ns) distinct in
     let near : i < length ns = omega arith in
     let apart : bytes_eq (name_of ns i) n ≡ false =
-        nat_list_eq_equiv.symm (name_of ns i) n ∙ name_other n ns i (not-true (list_any (bytes_eq n) ns) parts.0) near in
+    nat_list_eq_equiv.symm (name_of ns i) n ∙ name_other n ns i (not-true (list_any (bytes_eq n) ns) parts.0) near in
     ap (λ b. if b then Some 0 else option_map suc (number_of ns (name_of ns i))) apart ∙ ap (option_map suc) (number_again ns i parts.1 near)
 
 -- the cache states of one draft have the names that they have in another, and no name stands twice
@@ -134,7 +134,7 @@ message_same : (is_class : MsgClass → Bool) (e d : Draft) (i : ℕ) → KnowsM
 message_same is_class e d i k has =
     let there = message_there is_class d i has in
     let same = class_there e.messages i there.0.class
-        (ap (λ cs. slice_get cs i) k.classes ∙ slice_get-map (λ (m : MsgLine). m.class) d.messages i ∙ ap (option_map (λ (m : MsgLine). m.class)) there.1) in
+    (ap (λ cs. slice_get cs i) k.classes ∙ slice_get-map (λ (m : MsgLine). m.class) d.messages i ∙ ap (option_map (λ (m : MsgLine). m.class)) there.1) in
     (same.0, same.1, ap is_class same.2 ∙ there.2)
 
 message_found : (is_class : MsgClass → Bool) (e : Draft) (w : List ℕ) (i : ℕ) (m : MsgLine) → number_of (message_names e) w ≡ Some i

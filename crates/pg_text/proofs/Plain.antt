@@ -1,6 +1,6 @@
 -- The words of a well-named line hold no space and no newline, and have at most 24 bytes each.
-use Rattle.std.proofs.Common.{◌≡◌, ℕ, ◌≤◌, Bool, true, false, List, [], ◌∷◌, length, Some, None, refl, ap, ◌∙◌, arith}
-use Rattle.std.specs.Prelude.{◌&&◌, ◌||◌, ◌==◌, not, nat_le, nat_lt, IsTrue, codes}
+use Rattle.std.proofs.Common.{◌≡◌, ℕ, ◌≤◌, Bool, true, false, List, [], ◌∷◌, length, Some, None, refl, ap, arith}
+use Rattle.std.specs.Prelude.{◌&&◌, ◌||◌, ◌==◌, not, nat_le, nat_lt, codes}
 use Rattle.std.specs.List.{list_all}
 use Rattle.std.proofs.lemmas.Bool.{and_parts, and_from, ne_eqb, le-leb}
 use Rattle.std.proofs.lemmas.Bool.Decides.{nat_tests}
@@ -28,11 +28,10 @@ use Rattle.pg_perm.specs.declared.draft.MsgClass.TheVariants.{Request, Forward, 
 use Rattle.pg_text.specs.Pairs.{words_in, is_named_pair}
 use Rattle.pg_text.specs.declared.line.Line.{Line}
 use Rattle.pg_text.specs.declared.line.Line.TheVariants.{Protocol, Cache, Dir, Message, Core, Take, Row, End}
-use Rattle.pg_text.specs.declared.line.RowShape.{RowShape}
 use Rattle.pg_text.specs.declared.line.RowShape.TheVariants as row
 use Rattle.pg_text.specs.declared.line.CoreShape.{CoreShape}
 use Rattle.pg_text.specs.declared.line.CoreShape.TheVariants.{Hit, Ask, Leave}
-use Rattle.pg_text.specs.Forms.{role_word, perm_word, request_word, event_word, dir_word, forward_word, who_word, left_word, shape_words, spelling, IsShapeOf, IsRowShape, IsWellNamed}
+use Rattle.pg_text.specs.Forms.{role_word, perm_word, request_word, event_word, dir_word, forward_word, who_word, left_word, shape_words, spelling, IsShapeOf, IsWellNamed}
 
 -- a word that may be written
 abbrev pub is_word : List ℕ → Bool
@@ -61,8 +60,8 @@ name_word (b ∷ bs) h =
     let parts = and_parts (is_letter b && nat_lt (length bs) 24) (list_all is_name_byte bs) h in
     let first : is_letter b ≡ true = (and_parts (is_letter b) (nat_lt (length bs) 24) parts.0).0 in
     let plain : list_all is_plain (b ∷ bs) ≡ true =
-        and_from (is_plain b) (list_all is_plain bs) (name_byte-plain b (ap (λ t. (t || is_digit b) || is_underscore b) first))
-        (all_weaker is_name_byte is_plain bs name_byte-plain parts.1) in
+    and_from (is_plain b) (list_all is_plain bs) (name_byte-plain b (ap (λ t. (t || is_digit b) || is_underscore b) first))
+    (all_weaker is_name_byte is_plain bs name_byte-plain parts.1) in
     and_from (list_all is_plain (b ∷ bs)) (nat_le (length (b ∷ bs)) 24) plain (le-leb (length (b ∷ bs)) 24 (length-name (b ∷ bs) h))
 
 state_word : (w : List ℕ) → is_state_name w ≡ true → is_word w ≡ true

@@ -1,11 +1,11 @@
--- The text of a well-formed draft is read as that draft, with its lines numbered from 1, and is no longer than a text may be.
-use Rattle.std.proofs.Common.{◌≡◌, ℕ, ◌+◌, ◌*◌, ◌≤◌, Bool, true, false, List, [], ◌∷◌, ◌++◌, length, map, Result, Ok, Err, Some, refl, ap, sym, ◌∙◌, arith, append_assoc, length-append}
+-- The text of a well-formed draft is read as that draft, with its lines numbered from 1, and is short.
+use Rattle.std.proofs.Common.{◌≡◌, ℕ, ◌+◌, ◌*◌, ◌≤◌, Bool, true, false, List, [], ◌∷◌, ◌++◌, length, map, Result, Ok, Some, refl, ap, sym, ◌∙◌, arith, append_assoc, length-append}
 use Rattle.std.specs.Prelude.{◌&&◌, nat_le}
 use Rattle.std.specs.List.{join_with_byte, list_all}
 use Rattle.std.proofs.lemmas.Bool.{and_parts, and_from, le-leb, leb-true}
 use Rattle.std.proofs.lemmas.List.{length-map}
 use Rattle.std.proofs.lemmas.List.Folds.{list_all-append}
-use Rattle.pg_lines.specs.Lines.{lines_of, line_text, text_of, place_behind, is_plain, are_plain}
+use Rattle.pg_lines.specs.Lines.{line_text, text_of, place_behind, is_plain, are_plain}
 use Rattle.pg_lines.proofs.Written.{lines_written, place_written}
 use Rattle.pg_perm.specs.declared.draft.Draft.{Draft}
 use Rattle.pg_perm.specs.declared.draft.CacheLine.{CacheLine}
@@ -13,7 +13,6 @@ use Rattle.pg_perm.specs.declared.draft.DirLine.{DirLine}
 use Rattle.pg_perm.specs.declared.draft.MsgLine.{MsgLine}
 use Rattle.pg_perm.specs.declared.draft.CoreLine.{CoreLine}
 use Rattle.pg_perm.specs.declared.draft.TakeLine.{TakeLine}
-use Rattle.pg_perm.specs.declared.draft.RowLine.{RowLine}
 use Rattle.pg_perm.specs.declared.fault.Fault.{Fault}
 use Rattle.pg_perm.specs.Drafts.{IsWellFormed}
 use Rattle.pg_text.specs.declared.line.Kind.{Kind}
@@ -27,7 +26,7 @@ use Rattle.pg_text.specs.Printing.{numbered, cache_line_of, dir_line_of, message
 use Rattle.pg_text.specs.Texts.{read_lines, placed, reading}
 use Rattle.pg_text.proofs.Plain.{is_word, are_words, spelling_words}
 use Rattle.pg_text.proofs.WellNamed.{NamesAre, names_are}
-use Rattle.pg_text.proofs.ReadAgain.{written, words_plain, IsAdded, AreAdded, read_written, read_each, in_order, ranked_alike, ranked_messages}
+use Rattle.pg_text.proofs.ReadAgain.{written, words_plain, IsAdded, read_written, read_each, in_order, ranked_alike, ranked_messages}
 use Rattle.pg_text.proofs.Adding.{cache_at, dir_at, message_at, core_at, take_at, row_at, made, LimitsAre, limits_are, NumbersAre, numbers_are, NamesFree, names_free}
 use Rattle.pg_text.proofs.Adding.{caches_added, dirs_added, messages_added, cores_added, takes_added, rows_added}
 
@@ -211,17 +210,17 @@ all_writable d w =
     let rows : List Line = map (row_line_of d) d.rows in
     let first = writable no_draft 1 (Protocol d.name) false (made d [] [] [] [] [] []) (protocol_added d w) in
     let second = each_writable cache_line_of d.caches
-        (λ front x rest split. writable _ _ _ _ _ (caches_added d 0 w.names w.free w.limits front x rest 0 split).0) [] d.caches refl in
+    (λ front x rest split. writable _ _ _ _ _ (caches_added d 0 w.names w.free w.limits front x rest 0 split).0) [] d.caches refl in
     let third = each_writable (dir_line_of d) d.dirs
-        (λ front x rest split. writable _ _ _ _ _ (dirs_added d 0 0 w.names w.free w.numbers w.limits front x rest 0 split).0) [] d.dirs refl in
+    (λ front x rest split. writable _ _ _ _ _ (dirs_added d 0 0 w.names w.free w.numbers w.limits front x rest 0 split).0) [] d.dirs refl in
     let fourth = each_writable message_line_of d.messages
-        (λ front x rest split. writable _ _ _ _ _ (messages_added d 0 [] [] w.names w.free w.limits front x rest 0 split).0) [] d.messages refl in
+    (λ front x rest split. writable _ _ _ _ _ (messages_added d 0 [] [] w.names w.free w.limits front x rest 0 split).0) [] d.messages refl in
     let fifth = each_writable (core_line_of d) d.cores
-        (λ front x rest split. writable _ _ _ _ _ (cores_added d 0 0 0 0 w.names w.free w.numbers w.limits front x rest 0 split).0) [] d.cores refl in
+    (λ front x rest split. writable _ _ _ _ _ (cores_added d 0 0 0 0 w.names w.free w.numbers w.limits front x rest 0 split).0) [] d.cores refl in
     let sixth = each_writable (take_line_of d) d.takes
-        (λ front x rest split. writable _ _ _ _ _ (takes_added d 0 0 0 0 0 w.names w.free w.numbers w.limits front x rest 0 split).0) [] d.takes refl in
+    (λ front x rest split. writable _ _ _ _ _ (takes_added d 0 0 0 0 0 w.names w.free w.numbers w.limits front x rest 0 split).0) [] d.takes refl in
     let seventh = each_writable (row_line_of d) d.rows
-        (λ front x rest split. writable _ _ _ _ _ (rows_added d 0 0 0 0 0 0 w.names w.free w.numbers w.limits front x rest 0 split).0) [] d.rows refl in
+    (λ front x rest split. writable _ _ _ _ _ (rows_added d 0 0 0 0 0 0 w.names w.free w.numbers w.limits front x rest 0 split).0) [] d.rows refl in
     and_from (is_writable (Protocol d.name)) (list_all is_writable (caches ++ dirs ++ messages ++ cores ++ takes ++ rows ++ End ∷ [])) first
     (both_writable (caches ++ dirs ++ messages ++ cores ++ takes ++ rows) (End ∷ [])
     (both_writable (caches ++ dirs ++ messages ++ cores ++ takes) rows
@@ -259,7 +258,7 @@ length_lines d =
     omega (
       arith,
       length_seven (map cache_line_of d.caches) (map (dir_line_of d) d.dirs) (map message_line_of d.messages) (map (core_line_of d) d.cores)
-      (map (take_line_of d) d.takes) (map (row_line_of d) d.rows) (End ∷ []),
+          (map (take_line_of d) d.takes) (map (row_line_of d) d.rows) (End ∷ []),
       length-map d.caches cache_line_of,
       length-map d.dirs (dir_line_of d),
       length-map d.messages message_line_of,
@@ -278,3 +277,43 @@ printed_reads d w =
     ∙ ap (placed (text_of lines)) (read_all d w)
     ∙ ap (λ (n : ℕ). Ok (renumbered d, place_behind n (text_of lines))) last
     ∙ ap (λ (n : ℕ). Ok (renumbered d, n)) (place_written lines plain)
+
+-- words that may be written take 25 bytes each, with those between them
+line_short : (ws : List (List ℕ)) → are_words ws ≡ true → length (join_with_byte 32 ws) ≤ 25 * length ws
+line_short [] h = omega arith
+line_short (w ∷ []) h =
+    let word = and_parts (list_all is_plain w) (nat_le (length w) 24) (and_parts (is_word w) true h).0 in
+    omega (arith, leb-true (length w) 24 word.1)
+line_short (w ∷ v ∷ ws) h =
+    let parts = and_parts (is_word w) (are_words (v ∷ ws)) h in
+    let word = and_parts (list_all is_plain w) (nat_le (length w) 24) parts.0 in
+    omega (arith, leb-true (length w) 24 word.1, length-append w (32 ∷ join_with_byte 32 (v ∷ ws)), line_short (v ∷ ws) parts.1)
+
+-- lines that may be written take 2,001 bytes each at most
+text_short : (ls : List Line) → list_all is_writable ls ≡ true → length (text_of (map spelling ls)) ≤ 2001 * length ls
+text_short [] h = omega arith
+text_short (l ∷ ls) h =
+    let parts = and_parts (is_writable l) (list_all is_writable ls) h in
+    let line = and_parts (are_words (spelling l)) (nat_le (length (spelling l)) 80) parts.0 in
+    omega (
+      arith,
+      line_short (spelling l) line.0,
+      leb-true (length (spelling l)) 80 line.1,
+      length-append (line_text (spelling l)) (text_of (map spelling ls)),
+      length-append (join_with_byte 32 (spelling l)) (10 ∷ []),
+      text_short ls parts.1,
+    )
+
+-- the text of a well-formed draft is short: it has 578 lines at most
+pub printed_short : (d : Draft) → IsWellFormed d → length (printed d) ≤ 1300000
+printed_short d w =
+    let k = known d w in
+    omega (
+      arith,
+      text_short (lines_in d) (all_writable d k),
+      length_lines d,
+      k.limits.caches,
+      k.limits.dirs,
+      k.limits.messages,
+      k.limits.rules,
+    )

@@ -1,6 +1,6 @@
 -- Written lines, read one after another.
-use Rattle.std.proofs.Common.{◌≡◌, ℕ, ◌+◌, ◌≤◌, ◌<◌, Bool, true, false, List, [], ◌∷◌, ◌++◌, length, map, Option, Some, None, Result, Ok, Err, refl, ap, sym, ◌∙◌, arith, append_assoc, append-nil, length-append}
-use Rattle.std.specs.Prelude.{◌==◌, nat_lt, nat_le}
+use Rattle.std.proofs.Common.{◌≡◌, ℕ, ◌+◌, ◌≤◌, Bool, true, false, List, [], ◌∷◌, ◌++◌, length, map, Some, None, Result, Ok, refl, ap, sym, ◌∙◌, arith, append_assoc, append-nil, length-append}
+use Rattle.std.specs.Prelude.{nat_lt, nat_le}
 use Rattle.std.specs.List.{join_with_byte, list_all}
 use Rattle.std.specs.Option.{option_map_or}
 use Rattle.std.proofs.lemmas.Bool.{and_parts, ne_eqb, le-ltb, leb-true}
@@ -12,7 +12,6 @@ use Rattle.pg_perm.specs.declared.draft.MsgLine.{MsgLine}
 use Rattle.pg_perm.specs.declared.draft.MsgClass.{MsgClass}
 use Rattle.pg_perm.specs.declared.draft.MsgClass.TheVariants as class
 use Rattle.pg_perm.specs.declared.fault.Fault.{Fault}
-use Rattle.pg_perm.specs.declared.fault.Rule.{Rule}
 use Rattle.pg_perm.specs.Classes.{class_rank}
 use Rattle.pg_perm.specs.Drafts.{is_ordered}
 use Rattle.pg_text.specs.declared.line.Kind.{Kind}
@@ -113,8 +112,7 @@ ranked_from : (m : MsgLine) (ms : List MsgLine) → is_ordered (map (λ x. class
     → IsRanked (rank_of (kind_of (message_line_of m))) (map message_line_of ms) 5
 ranked_from m [] h = omega (arith, message_rank m, class_most m.class)
 ranked_from m (x ∷ xs) h =
-    let parts = and_parts (nat_le (class_rank m.class) (class_rank x.class)) (is_ordered (map (λ y. class_rank y.class) (x ∷ xs))) h in
-    (
+    let parts = and_parts (nat_le (class_rank m.class) (class_rank x.class)) (is_ordered (map (λ y. class_rank y.class) (x ∷ xs))) h in (
       omega (arith, message_rank m, message_rank x, leb-true (class_rank m.class) (class_rank x.class) parts.0),
       ranked_from x xs parts.1,
     )

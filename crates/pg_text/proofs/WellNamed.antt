@@ -1,5 +1,5 @@
 -- The lines of a well-formed draft are well named.
-use Rattle.std.proofs.Common.{◌≡◌, ℕ, Bool, true, false, List, [], ◌∷◌, ◌++◌, length, map, Option, Some, None, refl, ap, sym, ◌∙◌, arith, bytes_eq, codes}
+use Rattle.std.proofs.Common.{◌≡◌, ℕ, Bool, true, false, List, [], ◌∷◌, length, map, Option, Some, None, refl, arith, bytes_eq, codes}
 use Rattle.std.specs.Prelude.{◌≢◌, ◌&&◌, nat_lt, IsTrue, IfSome}
 use Rattle.std.specs.List.{list_all}
 use Rattle.std.specs.Option.{option_map, option_map_or}
@@ -8,7 +8,6 @@ use Rattle.std.proofs.lemmas.Slice.Eq.{bytes_eq-Decides}
 use Rattle.pg_perm.specs.Names.{is_name, is_state_name}
 use Rattle.pg_perm.specs.declared.kinds.Event.{Event}
 use Rattle.pg_perm.specs.declared.kinds.Event.TheVariants.{Load, Store, Evict}
-use Rattle.pg_perm.specs.declared.kinds.Who.{Who}
 use Rattle.pg_perm.specs.declared.kinds.Who.TheVariants as who
 use Rattle.pg_perm.specs.declared.draft.Draft.{Draft}
 use Rattle.pg_perm.specs.declared.draft.MsgLine.{MsgLine}
@@ -28,8 +27,7 @@ use Rattle.pg_perm.specs.declared.draft.RowForm.TheVariants as rows
 use Rattle.pg_perm.specs.declared.draft.Action.{Action}
 use Rattle.pg_perm.specs.declared.draft.Action.TheVariants as action
 use Rattle.pg_perm.specs.Classes.{is_request, is_forward, is_reply}
-use Rattle.pg_perm.specs.Drafts.{cache_names, dir_names, message_names, has_names, has_cache, has_dir, has_message, has_reply_name, has_pair, has_core_form, has_core, has_take, has_action, has_row_form, has_row, is_holder}
-use Rattle.pg_text.specs.declared.line.Line.{Line}
+use Rattle.pg_perm.specs.Drafts.{cache_names, dir_names, message_names, has_names, has_cache, has_dir, has_message, has_reply_name, has_pair, has_core_form, has_core, has_take, has_action, has_row_form, has_row}
 use Rattle.pg_text.specs.Forms.{IsShapeOf, IsRowShape, IsWellNamed}
 use Rattle.pg_text.specs.Pairs.{is_named_pair}
 use Rattle.pg_text.specs.Printing.{cache_name, dir_name, message_name, reply_word, pair_words, core_shape, action_word, row_shape_of, dir_line_of, message_line_of, core_line_of, take_line_of, row_line_of}
@@ -132,8 +130,7 @@ reply_of_take_named d (Some m) names has = message_named is_reply d m names has
 -- a take line
 pub take_line_named : (d : Draft) (t : TakeLine) → NamesAre d → has_take d t ≡ true → IsWellNamed (take_line_of d t)
 take_line_named d t names has =
-    let u = take_uses d t has in
-    (
+    let u = take_uses d t has in (
       cache_named d t.state names u.state,
       message_named is_forward d t.forward names u.forward,
       reply_of_take_named d t.reply names u.reply,
@@ -151,8 +148,7 @@ not_word w s other same = absurd (cc (other, (bytes_eq-Decides w s).1 same))
 
 holder_named : (d : Draft) (f : RowForm) → NamesAre d → are_free (message_names d) ≡ true → has_row_form d f ≡ true → IsRowShape (row_shape_of d f)
 holder_named d (rows.Ask request sender act) names free has =
-    let parts = and_parts (has_message is_request d request) (has_action d act) has in
-    (
+    let parts = and_parts (has_message is_request d request) (has_action d act) has in (
       message_named is_request d request names parts.0,
       not_word (message_name d request) (codes "evict") (message_free is_request d request 6 free parts.0 (omega arith)),
       action_named d act names parts.1,

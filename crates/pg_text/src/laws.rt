@@ -1,6 +1,6 @@
 //! Laws of the definitions that the contracts of this crate cite.
 
-ghost use Rattle.std.specs.Prelude.{◌≡◌, ◌↔◌, ℕ, List, [], codes, length};
+ghost use Rattle.std.specs.Prelude.{◌≡◌, ◌≤◌, ◌↔◌, ℕ, List, [], codes, length};
 ghost use Rattle.pg_perm.specs.declared.draft.Draft.{Draft};
 ghost use Rattle.pg_perm.specs.declared.fault.Fault.{Fault};
 ghost use Rattle.pg_perm.specs.Drafts.{IsWellFormed};
@@ -51,7 +51,8 @@ pub fn worked_texts()
     ensures renumbered { renumbered worked_draft ≡ worked_draft }
 {}
 
-/// The text of a well-formed draft is read as that draft, with its lines numbered from 1.
+/// The text of a well-formed draft is read as that draft, with its lines numbered from 1, and has at most 1,300,000 bytes.
 pub fn printing_is_exact()
     ensures back { (d : Draft) → IsWellFormed d → reading (printed d) ≡ Ok (renumbered d, length (printed d)) }
+    ensures short { (d : Draft) → IsWellFormed d → length (printed d) ≤ 1300000 }
 {}

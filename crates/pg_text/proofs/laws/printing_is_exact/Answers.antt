@@ -1,5 +1,8 @@
-use Rattle.pg_text.proofs.Printed.{printed_reads}
+use Rattle.pg_text.proofs.Printed.{printed_reads, printed_short}
 use Rattle.pg_text.proofs.laws.printing_is_exact.Goals as goal
 
-pub returns : goal.returns
-returns c = record { back = printed_reads }
+pub returns-clause-back : goal.returns-clause-back
+returns-clause-back c = printed_reads
+
+pub returns-clause-short : goal.returns-clause-short
+returns-clause-short c = printed_short
