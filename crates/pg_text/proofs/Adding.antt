@@ -1,6 +1,6 @@
 -- Each line of a well-formed draft may be added to the draft of the lines before it.
 use Rattle.std.proofs.Common.{◌≡◌, ℕ, ◌+◌, ◌≤◌, Bool, true, false, List, [], ◌∷◌, ◌++◌, length, map, Option, Some, None, is_some, refl, ap, sym, ◌∙◌, arith, bytes_eq, length-append}
-use Rattle.std.specs.Prelude.{◌&&◌, not, nat_le}
+use Rattle.std.specs.Prelude.{not, nat_le}
 use Rattle.std.specs.List.{list_all, list_any}
 use Rattle.std.proofs.lemmas.Bool.{and_parts, or_parts, or_from, not-true, lt-leb, leb-true}
 use Rattle.std.proofs.lemmas.Cmp.{nat_list_eq_equiv}
@@ -22,15 +22,16 @@ use Rattle.pg_perm.specs.declared.draft.TakeLine.{TakeLine}
 use Rattle.pg_perm.specs.declared.draft.RowLine.{RowLine}
 use Rattle.pg_perm.specs.declared.draft.RowForm.{RowForm}
 use Rattle.pg_perm.specs.declared.draft.RowForm.TheVariants as rows
-use Rattle.pg_perm.specs.Drafts.{cache_names, dir_names, message_names, taken_names, rule_lines, are_distinct, has_free_names, has_numbers, has_limits, has_cache, has_core, has_take, has_row, pair_count}
+use Rattle.pg_perm.specs.Drafts.{taken_names, are_distinct, has_cache, has_core, has_take, has_row, pair_count}
 use Rattle.pg_text.specs.declared.line.Line.TheVariants as line
 use Rattle.pg_text.specs.Forms.{spelling, shape_words}
 use Rattle.pg_text.specs.Pairs.{words_in}
 use Rattle.pg_text.specs.Kinds.{kind_of, is_protocol, is_end}
 use Rattle.pg_text.specs.Numbering.{put_dir, put_core, put_take, put_row}
 use Rattle.pg_text.specs.Printing.{numbered, cache_name, pair_words, core_shape, cache_line_of, dir_line_of, message_line_of, core_line_of, take_line_of, row_line_of}
-use Rattle.pg_text.proofs.NumbersAgain.{KnowsCaches, KnowsDirs, KnowsMessages, are_free, core_again, states_again, take_again, row_again}
-use Rattle.pg_text.proofs.WellNamed.{NamesAre, dir_line_named, message_line_named, core_line_named, take_line_named, row_line_named}
+use Rattle.pg_text.proofs.Parts.{Known}
+use Rattle.pg_text.proofs.NumbersAgain.{KnowsCaches, KnowsDirs, KnowsMessages, core_again, states_again, take_again, row_again}
+use Rattle.pg_text.proofs.WellNamed.{dir_line_named, message_line_named, core_line_named, take_line_named, row_line_named}
 use Rattle.pg_text.proofs.ReadAgain.{AreAdded}
 
 -- an element passes the test that all pass
@@ -71,6 +72,7 @@ map_numbered num f from [] same = refl
 map_numbered {B = B} num f from (x ∷ xs) same =
     ap (λ (y : B). y ∷ map f (numbered num (from + 1) xs)) (same from x) ∙ ap (λ (ys : List B). f x ∷ ys) (map_numbered num f (from + 1) xs same)
 
+-- numbering keeps how many there are
 pub length_numbered : {A : Type 0} (num : ℕ → A → A) (from : ℕ) (xs : List A) → length (numbered num from xs) ≡ length xs
 length_numbered num from [] = refl
 length_numbered num from (x ∷ xs) = omega (arith, length_numbered num (from + 1) xs)
@@ -90,6 +92,7 @@ room_left : {A : Type 0} (num : ℕ → A → A) (from : ℕ) (xs front : List A
 room_left num from xs front x rest other most now split few is_now =
     lt-leb most now (omega (arith, few, is_now, length_numbered num from front, ap length split, length-append front (x ∷ rest)))
 
+-- the lines with other numbers
 abbrev pub cache_at : ℕ → CacheLine → CacheLine
 cache_at n c = record c { line = n }
 
@@ -113,86 +116,30 @@ abbrev pub made : Draft → List CacheLine → List DirLine → List MsgLine →
 made d cs ss ms ks ts rs =
     record { line = 1; name = d.name; caches = cs; dirs = ss; messages = ms; cores = ks; takes = ts; rows = rs }
 
--- the limits of a draft
-pub record LimitsAre (d : Draft) : Type 0 where
-  pub caches : length d.caches ≤ 16
-  pub dirs : length d.dirs ≤ 16
-  pub messages : length d.messages ≤ 32
-  pub rules : length d.cores + length d.takes + length d.rows ≤ 512
-  pub beside : list_all (λ s. nat_le (length s.beside) 77) d.dirs ≡ true
-  pub pairs : list_all (λ c. nat_le (pair_count c.form) 38) d.cores ≡ true
-
-pub limits_are : (d : Draft) → has_limits d ≡ true → LimitsAre d
-limits_are d h =
-    let a : Bool = nat_le (length d.caches) 16 in
-    let b : Bool = nat_le (length d.dirs) 16 in
-    let c : Bool = nat_le (length d.messages) 32 in
-    let e : Bool = nat_le (rule_lines d) 512 in
-    let f : Bool = list_all (λ s. nat_le (length s.beside) 77) d.dirs in
-    let g : Bool = list_all (λ c. nat_le (pair_count c.form) 38) d.cores in
-    let sixth = and_parts (a && b && c && e && f) g h in
-    let fifth = and_parts (a && b && c && e) f sixth.0 in
-    let fourth = and_parts (a && b && c) e fifth.0 in
-    let third = and_parts (a && b) c fourth.0 in
-    let first = and_parts a b third.0 in
-    record {
-      caches = leb-true (length d.caches) 16 first.0;
-      dirs = leb-true (length d.dirs) 16 first.1;
-      messages = leb-true (length d.messages) 32 third.1;
-      rules = leb-true (rule_lines d) 512 fourth.1;
-      beside = fifth.1;
-      pairs = sixth.1;
-    }
-
--- what is declared in a draft is there, and names are free
-pub record NumbersAre (d : Draft) : Type 0 where
-  pub beside : list_all (λ s. list_all (has_cache d) s.beside) d.dirs ≡ true
-  pub cores : list_all (has_core d) d.cores ≡ true
-  pub takes : list_all (has_take d) d.takes ≡ true
-  pub rows : list_all (has_row d) d.rows ≡ true
-
-pub numbers_are : (d : Draft) → has_numbers d ≡ true → NumbersAre d
-numbers_are d h =
-    let a : Bool = list_all (λ s. list_all (has_cache d) s.beside) d.dirs in
-    let last = and_parts (a && list_all (has_core d) d.cores && list_all (has_take d) d.takes) (list_all (has_row d) d.rows) h in
-    let third = and_parts (a && list_all (has_core d) d.cores) (list_all (has_take d) d.takes) last.0 in
-    let first = and_parts a (list_all (has_core d) d.cores) third.0 in
-    record { beside = first.0; cores = first.1; takes = third.1; rows = last.1 }
-
-pub record NamesFree (d : Draft) : Type 0 where
-  pub caches : are_distinct (cache_names d) ≡ true
-  pub dirs : are_distinct (dir_names d) ≡ true
-  pub messages : are_distinct (message_names d) ≡ true
-  pub free : are_free (message_names d) ≡ true
-
-pub names_free : (d : Draft) → has_free_names d ≡ true → NamesFree d
-names_free d h =
-    let last = and_parts (are_distinct (cache_names d) && are_distinct (dir_names d) && are_distinct (message_names d)) (are_free (message_names d)) h in
-    let third = and_parts (are_distinct (cache_names d) && are_distinct (dir_names d)) (are_distinct (message_names d)) last.0 in
-    let first = and_parts (are_distinct (cache_names d)) (are_distinct (dir_names d)) third.0 in
-    record { caches = first.0; dirs = first.1; messages = third.1; free = last.1 }
-
 -- the drafts know what was numbered
-knows_caches : (d : Draft) (from : ℕ) (ss : List DirLine) (ms : List MsgLine) (ks : List CoreLine) (ts : List TakeLine) (rs : List RowLine) → NamesFree d
+knows_caches : (d : Draft) (from : ℕ) (ss : List DirLine) (ms : List MsgLine) (ks : List CoreLine) (ts : List TakeLine) (rs : List RowLine) → Known d
     → KnowsCaches (made d (numbered cache_at from d.caches) ss ms ks ts rs) d
-knows_caches d from ss ms ks ts rs free =
-    record { same = map_numbered cache_at (λ (c : CacheLine). c.name) from d.caches (λ n c. refl); distinct = free.caches }
+knows_caches d from ss ms ks ts rs k =
+    record { same = map_numbered cache_at (λ (c : CacheLine). c.name) from d.caches (λ n c. refl); distinct = k.free.caches }
 
-knows_dirs : (d : Draft) (from : ℕ) (cs : List CacheLine) (ms : List MsgLine) (ks : List CoreLine) (ts : List TakeLine) (rs : List RowLine) → NamesFree d
+-- likewise of directory states
+knows_dirs : (d : Draft) (from : ℕ) (cs : List CacheLine) (ms : List MsgLine) (ks : List CoreLine) (ts : List TakeLine) (rs : List RowLine) → Known d
     → KnowsDirs (made d cs (numbered dir_at from d.dirs) ms ks ts rs) d
-knows_dirs d from cs ms ks ts rs free =
-    record { same = map_numbered dir_at (λ (s : DirLine). s.name) from d.dirs (λ n s. refl); distinct = free.dirs }
+knows_dirs d from cs ms ks ts rs k =
+    record { same = map_numbered dir_at (λ (s : DirLine). s.name) from d.dirs (λ n s. refl); distinct = k.free.dirs }
 
-knows_messages : (d : Draft) (from : ℕ) (cs : List CacheLine) (ss : List DirLine) (ks : List CoreLine) (ts : List TakeLine) (rs : List RowLine) → NamesFree d
+-- likewise of messages
+knows_messages : (d : Draft) (from : ℕ) (cs : List CacheLine) (ss : List DirLine) (ks : List CoreLine) (ts : List TakeLine) (rs : List RowLine) → Known d
     → KnowsMessages (made d cs ss (numbered message_at from d.messages) ks ts rs) d
-knows_messages d from cs ss ks ts rs free =
+knows_messages d from cs ss ks ts rs k =
     record {
       same = map_numbered message_at (λ (m : MsgLine). m.name) from d.messages (λ n m. refl);
       classes = map_numbered message_at (λ (m : MsgLine). m.class) from d.messages (λ n m. refl);
-      distinct = free.messages;
-      free = free.free;
+      distinct = k.free.messages;
+      free = k.free.free;
     }
 
+-- a cache line has few words
 short_cache : (c : CacheLine) → length (spelling (cache_line_of c)) ≤ 80
 short_cache c = at c.clean
   where
@@ -201,35 +148,35 @@ short_cache c = at c.clean
     at false = omega arith
 
 -- the cache lines
-pub caches_added : (d : Draft) (from : ℕ) → NamesAre d → NamesFree d → LimitsAre d
+pub caches_added : (d : Draft) (from : ℕ) → Known d
     → AreAdded (λ cs. made d cs [] [] [] [] []) cache_line_of cache_at from d.caches
-caches_added d from names free limits front x rest n split = (
+caches_added d from k front x rest n split = (
   record {
-    named = named_inside is_state_name (λ (c : CacheLine). c.name) d.caches front x rest split names.caches;
+    named = named_inside is_state_name (λ (c : CacheLine). c.name) d.caches front x rest split k.names.caches;
     short = short_cache x;
     ended = refl;
-    new = new_name cache_at (λ (c : CacheLine). c.name) from d.caches front x rest (λ n c. refl) split free.caches;
+    new = new_name cache_at (λ (c : CacheLine). c.name) from d.caches front x rest (λ n c. refl) split k.free.caches;
     adds = refl;
-    room = room_left cache_at from d.caches front x rest 0 16 _ split (omega (arith, limits.caches)) (omega arith);
+    room = room_left cache_at from d.caches front x rest 0 16 _ split (omega (arith, k.limits.caches)) (omega arith);
   },
   refl,
 )
 
 -- the dir lines
-pub dirs_added : (d : Draft) (first from : ℕ) → NamesAre d → NamesFree d → NumbersAre d → LimitsAre d
+pub dirs_added : (d : Draft) (first from : ℕ) → Known d
     → AreAdded (λ ss. made d (numbered cache_at first d.caches) ss [] [] [] []) (dir_line_of d) dir_at from d.dirs
-dirs_added d first from names free numbers limits front x rest n split =
+dirs_added d first from k front x rest n split =
     let e : Draft = made d (numbered cache_at first d.caches) (numbered dir_at from front) [] [] [] [] in
-    let there = inside (λ (s : DirLine). list_all (has_cache d) s.beside) d.dirs front x rest split numbers.beside in
-    let few = leb-true (length x.beside) 77 (inside (λ (s : DirLine). nat_le (length s.beside) 77) d.dirs front x rest split limits.beside) in
-    let states = states_again e d x.beside (knows_caches d first (numbered dir_at from front) [] [] [] [] free) there in (
+    let there = inside (λ (s : DirLine). list_all (has_cache d) s.beside) d.dirs front x rest split k.numbers.beside in
+    let few = leb-true (length x.beside) 77 (inside (λ (s : DirLine). nat_le (length s.beside) 77) d.dirs front x rest split k.limits.beside) in
+    let states = states_again e d x.beside (knows_caches d first (numbered dir_at from front) [] [] [] [] k) there in (
       record {
-        named = dir_line_named d x names (named_inside is_state_name (λ (s : DirLine). s.name) d.dirs front x rest split names.dirs) there;
+        named = dir_line_named d x k.names (named_inside is_state_name (λ (s : DirLine). s.name) d.dirs front x rest split k.names.dirs) there;
         short = omega (arith, few, length-map x.beside (cache_name d));
         ended = refl;
-        new = new_name dir_at (λ (s : DirLine). s.name) from d.dirs front x rest (λ n s. refl) split free.dirs;
+        new = new_name dir_at (λ (s : DirLine). s.name) from d.dirs front x rest (λ n s. refl) split k.free.dirs;
         adds = ap (put_dir e n x.name x.kind) states;
-        room = room_left dir_at from d.dirs front x rest 0 16 _ split (omega (arith, limits.dirs)) (omega arith);
+        room = room_left dir_at from d.dirs front x rest 0 16 _ split (omega (arith, k.limits.dirs)) (omega arith);
       },
       refl,
     )
@@ -243,6 +190,7 @@ message_short m = at m.class
     at (class.Forward asked) = omega arith
     at class.Reply = omega arith
 
+-- it is neither the end line nor a protocol line
 message_kind : (m : MsgLine) → (is_end (kind_of (message_line_of m)) ≡ false) × (is_protocol (kind_of (message_line_of m)) ≡ false)
 message_kind m = at m.class
   where
@@ -252,26 +200,28 @@ message_kind m = at m.class
     at class.Reply = (refl, refl)
 
 -- the request, forward and reply lines
-pub messages_added : (d : Draft) (from : ℕ) (cs : List CacheLine) (ss : List DirLine) → NamesAre d → NamesFree d → LimitsAre d
+pub messages_added : (d : Draft) (from : ℕ) (cs : List CacheLine) (ss : List DirLine) → Known d
     → AreAdded (λ ms. made d cs ss ms [] [] []) message_line_of message_at from d.messages
-messages_added d from cs ss names free limits front x rest n split =
+messages_added d from cs ss k front x rest n split =
     let free_of : (list_any (bytes_eq x.name) taken_names) ≡ false =
-    not-true _ (named_inside (λ m. not (list_any (bytes_eq m) taken_names)) (λ (m : MsgLine). m.name) d.messages front x rest split free.free) in (
+    not-true _ (named_inside (λ m. not (list_any (bytes_eq m) taken_names)) (λ (m : MsgLine). m.name) d.messages front x rest split k.free.free) in (
       record {
-        named = message_line_named x (named_inside is_name (λ (m : MsgLine). m.name) d.messages front x rest split names.messages);
+        named = message_line_named x (named_inside is_name (λ (m : MsgLine). m.name) d.messages front x rest split k.names.messages);
         short = message_short x;
         ended = (message_kind x).0;
-        new = or_from _ _ free_of (new_name message_at (λ (m : MsgLine). m.name) from d.messages front x rest (λ n m. refl) split free.messages);
+        new = or_from _ _ free_of (new_name message_at (λ (m : MsgLine). m.name) from d.messages front x rest (λ n m. refl) split k.free.messages);
         adds = refl;
-        room = room_left message_at from d.messages front x rest 0 32 _ split (omega (arith, limits.messages)) (omega arith);
+        room = room_left message_at from d.messages front x rest 0 32 _ split (omega (arith, k.limits.messages)) (omega arith);
       },
       (message_kind x).1,
     )
 
+-- a pair has two words
 length_words_in : (ps : List (List ℕ × List ℕ)) → length (words_in ps) ≡ length ps + length ps
 length_words_in [] = refl
 length_words_in (p ∷ ps) = omega (arith, length_words_in ps)
 
+-- the form of a core line with few pairs has few words
 short_shape : (d : Draft) (f : CoreForm) → pair_count f ≤ 38 → length (shape_words (core_shape d f)) ≤ 77
 short_shape d (form.Hit None) few = omega arith
 short_shape d (form.Hit (Some next)) few = omega arith
@@ -279,28 +229,29 @@ short_shape d (form.Ask request pairs) few = omega (arith, few, length_words_in 
 short_shape d (form.Leave request) few = omega arith
 
 -- the core lines
-pub cores_added : (d : Draft) (first second third from : ℕ) → NamesAre d → NamesFree d → NumbersAre d → LimitsAre d
+pub cores_added : (d : Draft) (first second third from : ℕ) → Known d
     → AreAdded (λ ks. made d (numbered cache_at first d.caches) (numbered dir_at second d.dirs) (numbered message_at third d.messages) ks [] []) (core_line_of d) core_at from d.cores
-cores_added d first second third from names free numbers limits front x rest n split =
+cores_added d first second third from k front x rest n split =
     let cs : List CacheLine = numbered cache_at first d.caches in
     let ss : List DirLine = numbered dir_at second d.dirs in
     let ms : List MsgLine = numbered message_at third d.messages in
     let ks : List CoreLine = numbered core_at from front in
     let e : Draft = made d cs ss ms ks [] [] in
-    let there = inside (has_core d) d.cores front x rest split numbers.cores in
-    let few = leb-true (pair_count x.form) 38 (inside (λ (c : CoreLine). nat_le (pair_count c.form) 38) d.cores front x rest split limits.pairs) in
-    let core = core_again e d n x (knows_caches d first ss ms ks [] [] free) (knows_messages d third cs ss ks [] [] free) there in (
+    let there = inside (has_core d) d.cores front x rest split k.numbers.cores in
+    let few = leb-true (pair_count x.form) 38 (inside (λ (c : CoreLine). nat_le (pair_count c.form) 38) d.cores front x rest split k.limits.pairs) in
+    let core = core_again e d n x (knows_caches d first ss ms ks [] [] k) (knows_messages d third cs ss ks [] [] k) there in (
       record {
-        named = core_line_named d x names there;
+        named = core_line_named d x k.names there;
         short = omega (arith, short_shape d x.form few);
         ended = refl;
         new = refl;
         adds = ap (put_core e) core;
-        room = room_left core_at from d.cores front x rest 0 512 _ split (omega (arith, limits.rules)) (omega arith);
+        room = room_left core_at from d.cores front x rest 0 512 _ split (omega (arith, k.limits.rules)) (omega arith);
       },
       refl,
     )
 
+-- a take line has few words
 short_take : (d : Draft) (t : TakeLine) → length (spelling (take_line_of d t)) ≤ 80
 short_take d t = at t.reply
   where
@@ -309,28 +260,29 @@ short_take d t = at t.reply
     at (Some m) = omega arith
 
 -- the take lines
-pub takes_added : (d : Draft) (first second third fourth from : ℕ) → NamesAre d → NamesFree d → NumbersAre d → LimitsAre d
+pub takes_added : (d : Draft) (first second third fourth from : ℕ) → Known d
     → AreAdded (λ ts. made d (numbered cache_at first d.caches) (numbered dir_at second d.dirs) (numbered message_at third d.messages) (numbered core_at fourth d.cores) ts []) (take_line_of d) take_at from d.takes
-takes_added d first second third fourth from names free numbers limits front x rest n split =
+takes_added d first second third fourth from k front x rest n split =
     let cs : List CacheLine = numbered cache_at first d.caches in
     let ss : List DirLine = numbered dir_at second d.dirs in
     let ms : List MsgLine = numbered message_at third d.messages in
     let ks : List CoreLine = numbered core_at fourth d.cores in
     let ts : List TakeLine = numbered take_at from front in
     let e : Draft = made d cs ss ms ks ts [] in
-    let there = inside (has_take d) d.takes front x rest split numbers.takes in
-    let take = take_again e d n x (knows_caches d first ss ms ks ts [] free) (knows_messages d third cs ss ks ts [] free) there in (
+    let there = inside (has_take d) d.takes front x rest split k.numbers.takes in
+    let take = take_again e d n x (knows_caches d first ss ms ks ts [] k) (knows_messages d third cs ss ks ts [] k) there in (
       record {
-        named = take_line_named d x names there;
+        named = take_line_named d x k.names there;
         short = short_take d x;
         ended = refl;
         new = refl;
         adds = ap (put_take e) take;
-        room = room_left take_at from d.takes front x rest (length d.cores) 512 _ split (omega (arith, limits.rules)) (omega (arith, length_numbered core_at fourth d.cores));
+        room = room_left take_at from d.takes front x rest (length d.cores) 512 _ split (omega (arith, k.limits.rules)) (omega (arith, length_numbered core_at fourth d.cores));
       },
       refl,
     )
 
+-- a row line has few words
 short_row : (d : Draft) (r : RowLine) → length (spelling (row_line_of d r)) ≤ 80
 short_row d r = at r.form
   where
@@ -339,9 +291,9 @@ short_row d r = at r.form
     at (rows.Evict who left) = omega arith
 
 -- the row lines
-pub rows_added : (d : Draft) (first second third fourth fifth from : ℕ) → NamesAre d → NamesFree d → NumbersAre d → LimitsAre d
+pub rows_added : (d : Draft) (first second third fourth fifth from : ℕ) → Known d
     → AreAdded (λ rs. made d (numbered cache_at first d.caches) (numbered dir_at second d.dirs) (numbered message_at third d.messages) (numbered core_at fourth d.cores) (numbered take_at fifth d.takes) rs) (row_line_of d) row_at from d.rows
-rows_added d first second third fourth fifth from names free numbers limits front x rest n split =
+rows_added d first second third fourth fifth from k front x rest n split =
     let cs : List CacheLine = numbered cache_at first d.caches in
     let ss : List DirLine = numbered dir_at second d.dirs in
     let ms : List MsgLine = numbered message_at third d.messages in
@@ -349,15 +301,15 @@ rows_added d first second third fourth fifth from names free numbers limits fron
     let ts : List TakeLine = numbered take_at fifth d.takes in
     let rs : List RowLine = numbered row_at from front in
     let e : Draft = made d cs ss ms ks ts rs in
-    let there = inside (has_row d) d.rows front x rest split numbers.rows in
-    let row = row_again e d n x (knows_dirs d second cs ms ks ts rs free) (knows_messages d third cs ss ks ts rs free) there in (
+    let there = inside (has_row d) d.rows front x rest split k.numbers.rows in
+    let row = row_again e d n x (knows_dirs d second cs ms ks ts rs k) (knows_messages d third cs ss ks ts rs k) there in (
       record {
-        named = row_line_named d x names free.free there;
+        named = row_line_named d x k.names k.free.free there;
         short = short_row d x;
         ended = refl;
         new = refl;
         adds = ap (put_row e) row;
-        room = room_left row_at from d.rows front x rest (length d.cores + length d.takes) 512 _ split (omega (arith, limits.rules))
+        room = room_left row_at from d.rows front x rest (length d.cores + length d.takes) 512 _ split (omega (arith, k.limits.rules))
             (omega (arith, length_numbered core_at fourth d.cores, length_numbered take_at fifth d.takes));
       },
       refl,

@@ -7,6 +7,7 @@ pub mod Judging
 pub mod Faults
 pub mod Progress
 pub mod Unique
+pub mod Parts
 pub mod NumbersAgain
 pub mod Plain
 pub mod WellNamed

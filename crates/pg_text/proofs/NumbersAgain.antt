@@ -31,6 +31,7 @@ use Rattle.pg_perm.specs.Classes.{is_request, is_forward, is_reply}
 use Rattle.pg_perm.specs.Drafts.{cache_names, dir_names, message_names, taken_names, are_distinct, has_cache, has_dir, has_message, has_reply_name, has_pair, has_core_form, has_core, has_take, has_action, has_row_form, has_row}
 use Rattle.pg_text.specs.Numbering.{cache_number, dir_number, message_number, reply_name, pair_of, pairs_of, core_form, core_of, states_of, take_reply, take_of, action_by_class, action_of, row_form, row_of}
 use Rattle.pg_text.specs.Printing.{name_of, cache_name, dir_name, message_name, reply_word, pair_words, core_shape, action_word, row_shape_of}
+use Rattle.pg_text.proofs.Parts.{are_free}
 
 -- a test that all names pass is passed by the name with a number
 pub name_passes : (p : List ℕ → Bool) (names : List (List ℕ)) (i : ℕ) → list_all p names ≡ true → i < length names → p (name_of names i) ≡ true
@@ -70,11 +71,7 @@ pub record KnowsDirs (e d : Draft) : Type 0 where
 abbrev pub classes_in : List MsgLine → List MsgClass
 classes_in ms = map (λ m. m.class) ms
 
--- no name is among those that no message may have
-abbrev pub are_free : List (List ℕ) → Bool
-are_free names = list_all (λ m. not (list_any (bytes_eq m) taken_names)) names
-
--- likewise the messages, which also have their classes, and no name that is taken
+-- likewise the messages, which also have their classes, and none of the names that are taken
 pub record KnowsMessages (e d : Draft) : Type 0 where
   pub same : message_names e ≡ message_names d
   pub classes : classes_in e.messages ≡ classes_in d.messages
@@ -137,6 +134,7 @@ message_same is_class e d i k has =
     (ap (λ cs. slice_get cs i) k.classes ∙ slice_get-map (λ (m : MsgLine). m.class) d.messages i ∙ ap (option_map (λ (m : MsgLine). m.class)) there.1) in
     (same.0, same.1, ap is_class same.2 ∙ there.2)
 
+-- a word is looked up as a message where it has a number and that message is of the class
 message_found : (is_class : MsgClass → Bool) (e : Draft) (w : List ℕ) (i : ℕ) (m : MsgLine) → number_of (message_names e) w ≡ Some i
     → slice_get e.messages i ≡ Some m → is_class m.class ≡ true → message_number is_class e w ≡ Some i
 unfolding message_number
@@ -163,6 +161,7 @@ reply_again e d (reply.Reply m) k has =
     let other : bytes_eq (message_name d m) (codes "AckCount") ≡ false = message_free is_reply d m 2 k.free has (omega arith) in
     rw (other, message_again is_reply e d m k has) refl
 
+-- the names of a reply and a final state are looked up as that pair
 pair_again : (e d : Draft) (p : Pair) → KnowsCaches e d → KnowsMessages e d → has_pair d p ≡ true
     → pair_of e (reply_word d p.reply) (cache_name d p.fin) ≡ Some p
 unfolding pair_of
@@ -170,6 +169,7 @@ pair_again e d p c k has =
     let parts = and_parts (has_reply_name d p.reply) (has_cache d p.fin) has in
     rw (reply_again e d p.reply k parts.0, cache_again e d p.fin c parts.1) refl
 
+-- likewise those of all pairs
 pairs_again : (e d : Draft) (ps : List Pair) → KnowsCaches e d → KnowsMessages e d → list_all (has_pair d) ps ≡ true
     → pairs_of e (map (pair_words d) ps) ≡ Some ps
 pairs_again e d [] c k has = refl
@@ -183,7 +183,7 @@ UsesDeclared d (form.Hit next) = option_map_or (has_cache d) next true ≡ true
 UsesDeclared d (form.Ask request pairs) = (has_message is_request d request ≡ true) × (list_all (has_pair d) pairs ≡ true) × (nat_lt 0 (length pairs) ≡ true)
 UsesDeclared d (form.Leave request) = has_message is_request d request ≡ true
 
--- at each event the form of a core line uses what is declared
+-- what a form that asks uses is declared
 asks_declared : (d : Draft) (request : ℕ) (pairs : List Pair)
     → (has_message is_request d request && list_all (has_pair d) pairs && nat_lt 0 (length pairs)) ≡ true → UsesDeclared d (form.Ask request pairs)
 asks_declared d request pairs has =
@@ -191,6 +191,7 @@ asks_declared d request pairs has =
     let first = and_parts (has_message is_request d request) (list_all (has_pair d) pairs) parts.0 in
     (first.0, first.1, parts.1)
 
+-- at each event the form of a core line uses what is declared
 pub uses_declared : (d : Draft) (event : Event) (f : CoreForm) → has_core_form d event f ≡ true → UsesDeclared d f
 uses_declared d Evict (form.Hit next) has = absurd cc
 uses_declared d Evict (form.Ask request pairs) has = absurd cc
@@ -202,6 +203,7 @@ uses_declared d Store (form.Hit next) has = has
 uses_declared d Store (form.Ask request pairs) has = asks_declared d request pairs has
 uses_declared d Store (form.Leave request) has = absurd cc
 
+-- what stands behind the event of a core line
 form_again : (e d : Draft) (f : CoreForm) → KnowsCaches e d → KnowsMessages e d → UsesDeclared d f → core_form e (core_shape d f) ≡ Some f
 unfolding core_form
 form_again e d (form.Hit None) c k has = refl
@@ -225,6 +227,7 @@ states_again e d (s ∷ states) c has =
     let parts = and_parts (has_cache d s) (list_all (has_cache d) states) has in
     rw (cache_again e d s c parts.0, states_again e d states c parts.1) refl
 
+-- the reply of a take line
 take_reply_again : (e d : Draft) (r : Option ℕ) → KnowsMessages e d → option_map_or (has_message is_reply d) r true ≡ true
     → take_reply e (option_map (message_name d) r) ≡ Some r
 unfolding take_reply
@@ -238,6 +241,7 @@ pub record TakeUses (d : Draft) (t : TakeLine) : Type 0 where
   pub reply : option_map_or (has_message is_reply d) t.reply true ≡ true
   pub next : has_cache d t.next ≡ true
 
+-- a take line that may stand in the draft uses what is declared
 pub take_uses : (d : Draft) (t : TakeLine) → has_take d t ≡ true → TakeUses d t
 take_uses d t has =
     let c : Bool = option_map_or (has_message is_reply d) t.reply true in
@@ -259,21 +263,25 @@ take_again e d n t c k has =
       cache_again e d t.next c u.next,
     ) refl
 
+-- a forward as an action
 by_forward : (i : ℕ) (c : MsgClass) → is_forward c ≡ true → action_by_class i c ≡ Some (action.Forward i)
 by_forward i (class.Request asked) h = absurd cc
 by_forward i (class.Forward asked) h = refl
 by_forward i class.Reply h = absurd cc
 
+-- a reply as an action
 by_reply : (i : ℕ) (c : MsgClass) → is_reply c ≡ true → action_by_class i c ≡ Some (action.Reply i)
 by_reply i (class.Request asked) h = absurd cc
 by_reply i (class.Forward asked) h = absurd cc
 by_reply i class.Reply h = refl
 
+-- a word that is not `count` is looked up as the action of a message
 action_found : (e : Draft) (w : List ℕ) (i : ℕ) (m : MsgLine) → bytes_eq w (codes "count") ≡ false → number_of (message_names e) w ≡ Some i
     → slice_get e.messages i ≡ Some m → action_of e w ≡ action_by_class i m.class
 unfolding action_of
 action_found e w i m other number there = rw (other, number, there) refl
 
+-- `count` is looked up as that action
 counting : (e : Draft) → action_of e (codes "count") ≡ Some action.Count
 unfolding action_of
 counting e = refl
@@ -290,6 +298,7 @@ action_again e d (action.Forward m) k has =
     ∙ by_forward m same.0.class same.2
 action_again e d action.Count k has = counting e
 
+-- what stands behind the state of a row line
 row_form_again : (e d : Draft) (f : RowForm) → KnowsMessages e d → has_row_form d f ≡ true → row_form e (row_shape_of d f) ≡ Some f
 unfolding row_form
 row_form_again e d (rows.Ask request who act) k has =
@@ -303,6 +312,7 @@ pub record RowUses (d : Draft) (r : RowLine) : Type 0 where
   pub form : has_row_form d r.form ≡ true
   pub next : has_dir d r.next ≡ true
 
+-- a row line that may stand in the draft uses what is declared
 pub row_uses : (d : Draft) (r : RowLine) → has_row d r ≡ true → RowUses d r
 row_uses d r has =
     let last = and_parts (has_dir d r.dir && has_row_form d r.form) (has_dir d r.next) has in

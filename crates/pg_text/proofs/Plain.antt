@@ -45,9 +45,11 @@ are_words ws = list_all is_word ws
 more_words : (w : List ℕ) (ws : List (List ℕ)) → is_word w ≡ true → are_words ws ≡ true → are_words (w ∷ ws) ≡ true
 more_words w ws h g = and_from (is_word w) (are_words ws) h g
 
+-- each character of a name comes behind the space and the newline
 name_byte-past : (b : ℕ) → is_name_byte b ≡ true → 48 ≤ b
 name_byte-past b h = grind (arith, nat_tests)
 
+-- and is neither of them
 name_byte-plain : (b : ℕ) → is_name_byte b ≡ true → is_plain b ≡ true
 name_byte-plain b h =
     let past : 48 ≤ b = name_byte-past b h in
@@ -64,47 +66,56 @@ name_word (b ∷ bs) h =
     (all_weaker is_name_byte is_plain bs name_byte-plain parts.1) in
     and_from (list_all is_plain (b ∷ bs)) (nat_le (length (b ∷ bs)) 24) plain (le-leb (length (b ∷ bs)) 24 (length-name (b ∷ bs) h))
 
+-- the name of a state is a word
 state_word : (w : List ℕ) → is_state_name w ≡ true → is_word w ≡ true
 state_word w h = name_word w (and_parts (is_name w) _ h).0
 
+-- the fixed words are words
 role_is_word : (r : Role) → is_word (role_word r) ≡ true
 role_is_word Out = refl
 role_is_word Shared = refl
 role_is_word Owner = refl
 
+-- likewise for permissions
 perm_is_word : (p : Perm) → is_word (perm_word p) ≡ true
 perm_is_word perm.None = refl
 perm_is_word perm.Read = refl
 perm_is_word perm.Write = refl
 
+-- likewise for what a request asks
 request_is_word : (q : ReqClass) → is_word (request_word q) ≡ true
 request_is_word asks.Read = refl
 request_is_word asks.Write = refl
 request_is_word asks.Clean = refl
 request_is_word asks.Dirty = refl
 
+-- likewise for events
 event_is_word : (v : Event) → is_word (event_word v) ≡ true
 event_is_word Load = refl
 event_is_word Store = refl
 event_is_word Evict = refl
 
+-- likewise for what a directory state knows
 dir_is_word : (k : DirKind) → is_word (dir_word k) ≡ true
 dir_is_word knows.Idle = refl
 dir_is_word knows.Shared = refl
 dir_is_word knows.Owned = refl
 dir_is_word knows.Mixed = refl
 
+-- likewise for what a forward asks
 forward_is_word : (f : FwdClass) → is_word (forward_word f) ≡ true
 forward_is_word asked.Inv = refl
 forward_is_word asked.Share = refl
 forward_is_word asked.Keep = refl
 forward_is_word asked.Drop = refl
 
+-- likewise for senders
 who_is_word : (s : Who) → is_word (who_word s) ≡ true
 who_is_word who.Other = refl
 who_is_word who.Sharer = refl
 who_is_word who.Owner = refl
 
+-- likewise for whether sharers are left
 left_is_word : (m : Left) → is_word (left_word m) ≡ true
 left_is_word left.Last = refl
 left_is_word left.More = refl

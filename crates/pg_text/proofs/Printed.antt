@@ -25,9 +25,9 @@ use Rattle.pg_text.specs.Kinds.{rank_of}
 use Rattle.pg_text.specs.Printing.{numbered, cache_line_of, dir_line_of, message_line_of, core_line_of, take_line_of, row_line_of, lines_in, printed, renumbered}
 use Rattle.pg_text.specs.Texts.{read_lines, placed, reading}
 use Rattle.pg_text.proofs.Plain.{is_word, are_words, spelling_words}
-use Rattle.pg_text.proofs.WellNamed.{NamesAre, names_are}
+use Rattle.pg_text.proofs.Parts.{Known, known}
 use Rattle.pg_text.proofs.ReadAgain.{written, words_plain, IsAdded, read_written, read_each, in_order, ranked_alike, ranked_messages}
-use Rattle.pg_text.proofs.Adding.{cache_at, dir_at, message_at, core_at, take_at, row_at, made, LimitsAre, limits_are, NumbersAre, numbers_are, NamesFree, names_free}
+use Rattle.pg_text.proofs.Adding.{cache_at, dir_at, message_at, core_at, take_at, row_at, made}
 use Rattle.pg_text.proofs.Adding.{caches_added, dirs_added, messages_added, cores_added, takes_added, rows_added}
 
 -- the numbers of the first line of each kind
@@ -46,6 +46,7 @@ takes_from d = cores_from d + length d.cores
 abbrev rows_from : Draft → ℕ
 rows_from d = takes_from d + length d.takes
 
+-- the lines with the numbers that they have in the text
 abbrev caches_in : Draft → List CacheLine
 caches_in d = numbered cache_at 2 d.caches
 
@@ -80,97 +81,94 @@ dir_lines_on d = map (dir_line_of d) d.dirs ++ message_lines_on d
 abbrev cache_lines_on : Draft → List Line
 cache_lines_on d = map cache_line_of d.caches ++ dir_lines_on d
 
+-- lists in a row, grouped from the right
 regrouped : (a b c e f g h : List Line) → a ++ b ++ c ++ e ++ f ++ g ++ h ≡ a ++ (b ++ (c ++ (e ++ (f ++ (g ++ h)))))
 regrouped a b c e f g h =
     append_assoc (a ++ b ++ c ++ e ++ f) g h ∙ append_assoc (a ++ b ++ c ++ e) f (g ++ h) ∙ append_assoc (a ++ b ++ c) e (f ++ (g ++ h))
     ∙ append_assoc (a ++ b) c (e ++ (f ++ (g ++ h))) ∙ append_assoc a b (c ++ (e ++ (f ++ (g ++ h))))
 
+-- the lines of a draft, grouped so
 lines_grouped : (d : Draft) → lines_in d ≡ Protocol d.name ∷ cache_lines_on d
 lines_grouped d =
     ap (λ (ls : List Line). Protocol d.name ∷ ls)
     (regrouped (map cache_line_of d.caches) (map (dir_line_of d) d.dirs) (map message_line_of d.messages) (map (core_line_of d) d.cores)
     (map (take_line_of d) d.takes) (map (row_line_of d) d.rows) (End ∷ []))
 
--- what is known of a well-formed draft
-record Known (d : Draft) : Type 0 where
-  pub names : NamesAre d
-  pub free : NamesFree d
-  pub numbers : NumbersAre d
-  pub limits : LimitsAre d
-
-known : (d : Draft) → IsWellFormed d → Known d
-known d w =
-    record { names = names_are d w.names; free = names_free d w.free; numbers = numbers_are d w.numbers; limits = limits_are d w.limits }
-
 -- what reading the text answers
 abbrev answer : Draft → Result (Draft × ℕ) Fault
 answer d = Ok (renumbered d, rows_from d + length d.rows)
 
+-- the end line adds nothing
 end_added : (e : Draft) (n : ℕ) → IsAdded e n End true e
 end_added e n = record { named = tt; short = omega arith; ended = refl; new = refl; adds = refl; room = refl }
 
+-- behind all others, reading ends with the end line
 read_end : (e : Draft) (k : Kind) (n : ℕ) → 2 ≤ n → rank_of k ≤ 8 → read_lines (record { kind = Some k; draft = e }) n (map written (End ∷ [])) ≡ Ok (e, n)
 read_end e k n far ranked =
     read_written (record { kind = Some k; draft = e }) n End true e [] (in_order n k kind.End far refl (omega (arith, ranked))) (end_added e n)
 
+-- reading from the first row line on
 read_rows : (d : Draft) → Known d → (k : Kind) (n : ℕ) → rank_of k ≤ 7 → n ≡ rows_from d
     → read_lines (record { kind = Some k; draft = made d (caches_in d) (dirs_in d) (messages_in d) (cores_in d) (takes_in d) [] }) n (map written (row_lines_on d))
     ≡ answer d
 read_rows d w k n ranked is_n =
     read_each (made d (caches_in d) (dirs_in d) (messages_in d) (cores_in d) (takes_in d)) (row_line_of d) row_at (rows_from d) d.rows 8 (End ∷ [])
     (answer d) (omega arith)
-    (rows_added d 2 (dirs_from d) (messages_from d) (cores_from d) (takes_from d) (rows_from d) w.names w.free w.numbers w.limits)
+    (rows_added d 2 (dirs_from d) (messages_from d) (cores_from d) (takes_from d) (rows_from d) w)
     (λ j m below is_m. read_end (renumbered d) j m (omega (arith, is_m)) below ∙ ap (λ (i : ℕ). Ok (renumbered d, i)) is_m)
     [] d.rows k n refl (omega (arith, is_n)) (ranked_alike (row_line_of d) 8 d.rows (rank_of k) (λ x. refl) (omega (arith, ranked)))
 
+-- from the first take line on
 read_takes : (d : Draft) → Known d → (k : Kind) (n : ℕ) → rank_of k ≤ 6 → n ≡ takes_from d
     → read_lines (record { kind = Some k; draft = made d (caches_in d) (dirs_in d) (messages_in d) (cores_in d) [] [] }) n (map written (take_lines_on d))
     ≡ answer d
 read_takes d w k n ranked is_n =
     read_each (λ ts. made d (caches_in d) (dirs_in d) (messages_in d) (cores_in d) ts []) (take_line_of d) take_at (takes_from d) d.takes 7
     (row_lines_on d) (answer d) (omega arith)
-    (takes_added d 2 (dirs_from d) (messages_from d) (cores_from d) (takes_from d) w.names w.free w.numbers w.limits)
+    (takes_added d 2 (dirs_from d) (messages_from d) (cores_from d) (takes_from d) w)
     (λ j m below is_m. read_rows d w j m below is_m)
     [] d.takes k n refl (omega (arith, is_n)) (ranked_alike (take_line_of d) 7 d.takes (rank_of k) (λ x. refl) (omega (arith, ranked)))
 
+-- from the first core line on
 read_cores : (d : Draft) → Known d → (k : Kind) (n : ℕ) → rank_of k ≤ 5 → n ≡ cores_from d
     → read_lines (record { kind = Some k; draft = made d (caches_in d) (dirs_in d) (messages_in d) [] [] [] }) n (map written (core_lines_on d)) ≡ answer d
 read_cores d w k n ranked is_n =
     read_each (λ ks. made d (caches_in d) (dirs_in d) (messages_in d) ks [] []) (core_line_of d) core_at (cores_from d) d.cores 6
     (take_lines_on d) (answer d) (omega arith)
-    (cores_added d 2 (dirs_from d) (messages_from d) (cores_from d) w.names w.free w.numbers w.limits)
+    (cores_added d 2 (dirs_from d) (messages_from d) (cores_from d) w)
     (λ j m below is_m. read_takes d w j m below is_m)
     [] d.cores k n refl (omega (arith, is_n)) (ranked_alike (core_line_of d) 6 d.cores (rank_of k) (λ x. refl) (omega (arith, ranked)))
 
+-- from the first request, forward or reply line on
 read_messages : (d : Draft) → IsWellFormed d → (k : Kind) (n : ℕ) → rank_of k ≤ 2 → n ≡ messages_from d
     → read_lines (record { kind = Some k; draft = made d (caches_in d) (dirs_in d) [] [] [] [] }) n (map written (message_lines_on d)) ≡ answer d
 read_messages d w k n ranked is_n =
-    let kn = known d w in
     read_each (λ ms. made d (caches_in d) (dirs_in d) ms [] [] []) message_line_of message_at (messages_from d) d.messages 5
     (core_lines_on d) (answer d) (omega arith)
-    (messages_added d (messages_from d) (caches_in d) (dirs_in d) kn.names kn.free kn.limits)
-    (λ j m below is_m. read_cores d kn j m below is_m)
+    (messages_added d (messages_from d) (caches_in d) (dirs_in d) (known d w))
+    (λ j m below is_m. read_cores d (known d w) j m below is_m)
     [] d.messages k n refl (omega (arith, is_n)) (ranked_messages d.messages (rank_of k) (omega (arith, ranked)) w.classes)
 
+-- from the first dir line on
 read_dirs : (d : Draft) → IsWellFormed d → (k : Kind) (n : ℕ) → rank_of k ≤ 1 → n ≡ dirs_from d
     → read_lines (record { kind = Some k; draft = made d (caches_in d) [] [] [] [] [] }) n (map written (dir_lines_on d)) ≡ answer d
 read_dirs d w k n ranked is_n =
-    let kn = known d w in
     read_each (λ ss. made d (caches_in d) ss [] [] [] []) (dir_line_of d) dir_at (dirs_from d) d.dirs 2
     (message_lines_on d) (answer d) (omega arith)
-    (dirs_added d 2 (dirs_from d) kn.names kn.free kn.numbers kn.limits)
+    (dirs_added d 2 (dirs_from d) (known d w))
     (λ j m below is_m. read_messages d w j m below is_m)
     [] d.dirs k n refl (omega (arith, is_n)) (ranked_alike (dir_line_of d) 2 d.dirs (rank_of k) (λ x. refl) (omega (arith, ranked)))
 
+-- from the first cache line on
 read_caches : (d : Draft) → IsWellFormed d
     → read_lines (record { kind = Some kind.Protocol; draft = made d [] [] [] [] [] [] }) 2 (map written (cache_lines_on d)) ≡ answer d
 read_caches d w =
-    let kn = known d w in
     read_each (λ cs. made d cs [] [] [] [] []) cache_line_of cache_at 2 d.caches 1 (dir_lines_on d) (answer d) (omega arith)
-    (caches_added d 2 kn.names kn.free kn.limits)
+    (caches_added d 2 (known d w))
     (λ j m below is_m. read_dirs d w j m below is_m)
     [] d.caches kind.Protocol 2 refl (omega arith) (ranked_alike cache_line_of 1 d.caches 0 (λ x. refl) (omega arith))
 
+-- the protocol line gives the draft its name
 protocol_added : (d : Draft) → Known d → IsAdded no_draft 1 (Protocol d.name) false (made d [] [] [] [] [] [])
 protocol_added d w = record { named = w.names.protocol; short = omega arith; ended = refl; new = refl; adds = refl; room = refl }
 
@@ -185,10 +183,12 @@ read_all d w =
 abbrev is_writable : Line → Bool
 is_writable l = are_words (spelling l) && nat_le (length (spelling l)) 80
 
+-- a line that may be added may be written
 writable : (e : Draft) (n : ℕ) (l : Line) (is_last : Bool) (more : Draft) → IsAdded e n l is_last more → is_writable l ≡ true
 writable e n l is_last more added =
     and_from (are_words (spelling l)) (nat_le (length (spelling l)) 80) (spelling_words l added.named) (le-leb (length (spelling l)) 80 added.short)
 
+-- where the line of each element may be written, all may be
 each_writable : {A : Type 0} (line : A → Line) (xs : List A) → ((front : List A) (x : A) (rest : List A) → xs ≡ front ++ x ∷ rest → is_writable (line x) ≡ true)
     → (front rest : List A) → xs ≡ front ++ rest → list_all is_writable (map line rest) ≡ true
 each_writable line xs each front [] split = refl
@@ -196,6 +196,7 @@ each_writable line xs each front (x ∷ rest) split =
     and_from (is_writable (line x)) (list_all is_writable (map line rest)) (each front x rest split)
     (each_writable line xs each (front ++ x ∷ []) rest (split ∙ sym (append_assoc front (x ∷ []) rest)))
 
+-- lines in a row
 both_writable : (ls ms : List Line) → list_all is_writable ls ≡ true → list_all is_writable ms ≡ true → list_all is_writable (ls ++ ms) ≡ true
 both_writable ls ms h g = list_all-append is_writable ls ms ∙ and_from (list_all is_writable ls) (list_all is_writable ms) h g
 
@@ -210,17 +211,17 @@ all_writable d w =
     let rows : List Line = map (row_line_of d) d.rows in
     let first = writable no_draft 1 (Protocol d.name) false (made d [] [] [] [] [] []) (protocol_added d w) in
     let second = each_writable cache_line_of d.caches
-    (λ front x rest split. writable _ _ _ _ _ (caches_added d 0 w.names w.free w.limits front x rest 0 split).0) [] d.caches refl in
+    (λ front x rest split. writable _ _ _ _ _ (caches_added d 0 w front x rest 0 split).0) [] d.caches refl in
     let third = each_writable (dir_line_of d) d.dirs
-    (λ front x rest split. writable _ _ _ _ _ (dirs_added d 0 0 w.names w.free w.numbers w.limits front x rest 0 split).0) [] d.dirs refl in
+    (λ front x rest split. writable _ _ _ _ _ (dirs_added d 0 0 w front x rest 0 split).0) [] d.dirs refl in
     let fourth = each_writable message_line_of d.messages
-    (λ front x rest split. writable _ _ _ _ _ (messages_added d 0 [] [] w.names w.free w.limits front x rest 0 split).0) [] d.messages refl in
+    (λ front x rest split. writable _ _ _ _ _ (messages_added d 0 [] [] w front x rest 0 split).0) [] d.messages refl in
     let fifth = each_writable (core_line_of d) d.cores
-    (λ front x rest split. writable _ _ _ _ _ (cores_added d 0 0 0 0 w.names w.free w.numbers w.limits front x rest 0 split).0) [] d.cores refl in
+    (λ front x rest split. writable _ _ _ _ _ (cores_added d 0 0 0 0 w front x rest 0 split).0) [] d.cores refl in
     let sixth = each_writable (take_line_of d) d.takes
-    (λ front x rest split. writable _ _ _ _ _ (takes_added d 0 0 0 0 0 w.names w.free w.numbers w.limits front x rest 0 split).0) [] d.takes refl in
+    (λ front x rest split. writable _ _ _ _ _ (takes_added d 0 0 0 0 0 w front x rest 0 split).0) [] d.takes refl in
     let seventh = each_writable (row_line_of d) d.rows
-    (λ front x rest split. writable _ _ _ _ _ (rows_added d 0 0 0 0 0 0 w.names w.free w.numbers w.limits front x rest 0 split).0) [] d.rows refl in
+    (λ front x rest split. writable _ _ _ _ _ (rows_added d 0 0 0 0 0 0 w front x rest 0 split).0) [] d.rows refl in
     and_from (is_writable (Protocol d.name)) (list_all is_writable (caches ++ dirs ++ messages ++ cores ++ takes ++ rows ++ End ∷ [])) first
     (both_writable (caches ++ dirs ++ messages ++ cores ++ takes ++ rows) (End ∷ [])
     (both_writable (caches ++ dirs ++ messages ++ cores ++ takes) rows
@@ -228,6 +229,7 @@ all_writable d w =
     (both_writable (caches ++ dirs ++ messages) cores
     (both_writable (caches ++ dirs) messages (both_writable caches dirs second third) fourth) fifth) sixth) seventh) refl)
 
+-- the words of such lines are plain
 all_plain : (ls : List Line) → list_all is_writable ls ≡ true → list_all are_plain (map spelling ls) ≡ true
 all_plain [] h = refl
 all_plain (l ∷ ls) h =
@@ -235,10 +237,12 @@ all_plain (l ∷ ls) h =
     let words = (and_parts (are_words (spelling l)) (nat_le (length (spelling l)) 80) parts.0).0 in
     and_from (are_plain (spelling l)) (list_all are_plain (map spelling ls)) (words_plain (spelling l) words) (all_plain ls parts.1)
 
+-- the lines as they stand in the text
 map_written : (ls : List Line) → map (join_with_byte 32) (map spelling ls) ≡ map written ls
 map_written [] = refl
 map_written (l ∷ ls) = ap (λ (lines : List (List ℕ)). written l ∷ lines) (map_written ls)
 
+-- how many elements lists in a row have
 length_seven : (a b c e f g h : List Line)
     → length (a ++ b ++ c ++ e ++ f ++ g ++ h) ≡ length a + length b + length c + length e + length f + length g + length h
 length_seven a b c e f g h =

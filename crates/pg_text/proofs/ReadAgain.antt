@@ -31,6 +31,7 @@ use Rattle.pg_text.proofs.Spellings.{spelled}
 abbrev pub written : Line → List ℕ
 written l = join_with_byte 32 (spelling l)
 
+-- no words are no line
 no_line : line_of [] ≡ None
 unfolding line_of
 no_line = refl
@@ -52,10 +53,12 @@ pub record IsAdded (e : Draft) (n : ℕ) (l : Line) (is_last : Bool) (more : Dra
   pub adds : with_line e n l ≡ Some more
   pub room : is_full e l ≡ false
 
+-- such a line is taken in, where it is in order
 judged_added : (above : Above) (n : ℕ) (l : Line) (is_last : Bool) (more : Draft) → is_out_of_order n above.kind (kind_of l) ≡ false
     → IsAdded above.draft n l is_last more → judged above n false (Some l) ≡ Ok (record { kind = Some (kind_of l); draft = more })
 judged_added above n l is_last more order added = rw (order, added.new, added.adds, added.room) refl
 
+-- likewise as it is written
 judge_written : (above : Above) (n : ℕ) (l : Line) (is_last : Bool) (more : Draft) → is_out_of_order n above.kind (kind_of l) ≡ false
     → IsAdded above.draft n l is_last more → judge above n (written l) ≡ Ok (record { kind = Some (kind_of l); draft = more })
 judge_written above n l is_last more order added =
@@ -64,6 +67,7 @@ judge_written above n l is_last more order added =
     ∙ ap (judged above n false) (spelled l added.named)
     ∙ judged_added above n l is_last more order added
 
+-- a written line is the end line where the line is
 ends_written : (l : Line) (is_last : Bool) → IsWellNamed l → is_end (kind_of l) ≡ is_last → ends (written l) ≡ is_last
 ends_written l is_last named ended =
     ap (λ ws. option_map_or (λ m. is_end (kind_of m)) (line_of ws) false) (words_again l named)
@@ -103,11 +107,13 @@ message_rank m = at m.class
     at (class.Forward asked) = refl
     at class.Reply = refl
 
+-- no class has a rank past that of a reply
 class_most : (c : MsgClass) → class_rank c ≤ 2
 class_most (class.Request asked) = omega arith
 class_most (class.Forward asked) = omega arith
 class_most class.Reply = omega arith
 
+-- messages that are ordered behind one
 ranked_from : (m : MsgLine) (ms : List MsgLine) → is_ordered (map (λ x. class_rank x.class) (m ∷ ms)) ≡ true
     → IsRanked (rank_of (kind_of (message_line_of m))) (map message_line_of ms) 5
 ranked_from m [] h = omega (arith, message_rank m, class_most m.class)
