@@ -12,3 +12,4 @@ pub mod WellFormed
 pub mod Declared
 pub mod Listed
 pub mod TakenIn
+pub mod ReadBack

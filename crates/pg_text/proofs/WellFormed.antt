@@ -46,13 +46,13 @@ use Rattle.pg_text.proofs.Listed.{Listing, IsBefore, before_later, cache_last, d
 use Rattle.pg_text.proofs.Declared.{states_found, shape_pairs, core_found, take_found, row_found}
 
 -- the cache lines of a well-formed draft
-record AreCaches (cs : List CacheLine) : Type 0 where
+pub record AreCaches (cs : List CacheLine) : Type 0 where
   named : list_all is_state_name (map (λ c. c.name) cs) ≡ true
   distinct : are_distinct (map (λ c. c.name) cs) ≡ true
   few : length cs ≤ 16
 
 -- the dir lines, below so many cache lines
-record AreDirs (caches : ℕ) (ss : List DirLine) : Type 0 where
+pub record AreDirs (caches : ℕ) (ss : List DirLine) : Type 0 where
   named : list_all is_state_name (map (λ s. s.name) ss) ≡ true
   distinct : are_distinct (map (λ s. s.name) ss) ≡ true
   few : length ss ≤ 16
@@ -60,7 +60,7 @@ record AreDirs (caches : ℕ) (ss : List DirLine) : Type 0 where
   short : list_all (λ s. nat_le (length s.beside) 77) ss ≡ true
 
 -- the message lines
-record AreMessages (ms : List MsgLine) : Type 0 where
+pub record AreMessages (ms : List MsgLine) : Type 0 where
   named : list_all is_name (map (λ m. m.name) ms) ≡ true
   distinct : are_distinct (map (λ m. m.name) ms) ≡ true
   free : list_all (λ m. not (list_any (bytes_eq m) taken_names)) (map (λ m. m.name) ms) ≡ true
@@ -80,12 +80,12 @@ numbers d = record {
 }
 
 -- the numbers of the lines rise, and are below that of the next line
-record AreLines (next : ℕ) (numbers : List ℕ) : Type 0 where
+pub record AreLines (next : ℕ) (numbers : List ℕ) : Type 0 where
   rise : is_rising numbers ≡ true
   below : list_all (λ m. nat_lt m next) numbers ≡ true
 
 -- the draft of lines above line n that break no rule
-record IsGrown (d : Draft) (n : ℕ) : Type 0 where
+pub record IsGrown (d : Draft) (n : ℕ) : Type 0 where
   named : is_name d.name ≡ true
   caches : AreCaches d.caches
   dirs : AreDirs (length d.caches) d.dirs
@@ -98,7 +98,7 @@ record IsGrown (d : Draft) (n : ℕ) : Type 0 where
   lines : AreLines n (line_numbers d)
 
 -- both, up to a place in the order
-abbrev Grew : Draft → ℕ → ℕ → Type 0
+abbrev pub Grew : Draft → ℕ → ℕ → Type 0
 Grew d n r = IsGrown d n × IsBefore d r
 
 -- what is grown is well formed
@@ -156,7 +156,8 @@ cache_step d n c grew line named new room =
               ∙ distinct_behind (cache_names d) c.name g.caches.distinct (new_name (cache_names d) c.name new);
           few = one_within d.caches c 16 room;
         };
-        dirs = subst (AreDirs (length (d.caches ++ c ∷ []))) (sym dirs) (record { named = refl; distinct = refl; few = omega arith; known = refl; short = refl });
+        dirs = subst (AreDirs (length (d.caches ++ c ∷ []))) (sym dirs)
+            (record { named = refl; distinct = refl; few = omega arith; known = refl; short = refl });
         messages = g.messages;
         cores = all_of_none _ d.cores cores;
         short = g.short;
@@ -198,7 +199,14 @@ dir_step d n s grew line named new room known short =
         few = g.few;
         lines = lines_on n (line_numbers d) _ g.lines (dir_last (numbers d) d s n line b);
       },
-      record { no_dirs = λ h. absurd (omega (arith, h)); no_messages = b.no_messages; no_cores = b.no_cores; no_takes = b.no_takes; no_rows = b.no_rows; ranked = b.ranked },
+      record {
+        no_dirs = λ h. absurd (omega (arith, h));
+        no_messages = b.no_messages;
+        no_cores = b.no_cores;
+        no_takes = b.no_takes;
+        no_rows = b.no_rows;
+        ranked = b.ranked;
+      },
     )
 
 -- a message line goes behind the others
@@ -434,11 +442,11 @@ first_step (Message name Reply) more first named e = absurd cc
 first_step _ more first named e = absurd cc
 
 -- no line is above, or the lines above break no rule
-abbrev IsAbove : Above → ℕ → Type 0
+abbrev pub IsAbove : Above → ℕ → Type 0
 IsAbove above n = ((above ≡ nothing) × (n ≡ 1)) ⊎ ((k : Kind) × (above.kind ≡ Some k) × (2 ≤ n) × Grew above.draft n (rank_of k))
 
 -- a line in order is not the protocol line, and its kind comes no earlier than that just above
-in_order : (n : ℕ) (a k : Kind) → 2 ≤ n → is_out_of_order n (Some a) k ≡ false → (is_protocol k ≡ false) × (rank_of a ≤ rank_of k)
+pub in_order : (n : ℕ) (a k : Kind) → 2 ≤ n → is_out_of_order n (Some a) k ≡ false → (is_protocol k ≡ false) × (rank_of a ≤ rank_of k)
 in_order n a k h e = at (n == 1) refl e
   where
     at : (b : Bool) → (n == 1) ≡ b → cond b (not (is_protocol k)) (is_protocol k || nat_lt (rank_of k) (rank_of a)) ≡ false
@@ -467,8 +475,14 @@ above_next above n line next l (inr h) t =
     let before = before_later above.draft (rank_of h.0) (rank_of (kind_of l)) order.1 h.3.1 in
     line_step above.draft n l next.draft (h.3.0, before) order.0 spelled.1 t.new t.room words t.declares
 
+-- with that line, the lines above break no rule
+pub above_later : (above : Above) (n : ℕ) (line : List ℕ) (next : Above) (l : Line) → IsAbove above n → IsTakenIn above n line next l
+    → IsAbove next (n + 1)
+above_later above n line next l a t = inr (kind_of l, t.is_kind, later above n a, above_next above n line next l a t)
+
 -- the draft of lines that break no rule is well formed
-lines_well_formed : (above : Above) (n : ℕ) (lines : List (List ℕ)) (p : Draft × ℕ) → IsAbove above n → read_lines above n lines ≡ Ok p → IsWellFormed p.0
+lines_well_formed : (above : Above) (n : ℕ) (lines : List (List ℕ)) (p : Draft × ℕ) → IsAbove above n → read_lines above n lines ≡ Ok p
+    → IsWellFormed p.0
 lines_well_formed above n [] p a e = absurd cc
 lines_well_formed above n (line ∷ lines) p a e =
     at (judge above n line) (ends line) refl e (λ next b. lines_well_formed next (n + 1) lines p b)
@@ -478,13 +492,12 @@ lines_well_formed above n (line ∷ lines) p a e =
     at (Err R) b j e behind = absurd cc
     at (Ok next) b j e behind = by b e (taken_in above n line next j)
       where
-        by : (b : Bool) → read_on n b (Ok next) (λ more. read_lines more (n + 1) lines) ≡ Ok p → (l : Line) × IsTakenIn above n line next l → IsWellFormed p.0
+        by : (b : Bool) → read_on n b (Ok next) (λ more. read_lines more (n + 1) lines) ≡ Ok p
+            → (l : Line) × IsTakenIn above n line next l → IsWellFormed p.0
         by true e t =
             let grew = above_next above n line next t.0 a t.1 in
             subst (λ (q : Draft × ℕ). IsWellFormed q.0) (same_ok _ p e) (grown_formed next.draft (n + 1) grew.0)
-        by false e t =
-            let grew = above_next above n line next t.0 a t.1 in
-            behind next (inr (kind_of t.0, t.1.is_kind, later above n a, grew)) e
+        by false e t = behind next (above_later above n line next t.0 a t.1) e
 
 -- a text that is read gives a well-formed draft
 pub read_well_formed : (bytes : List ℕ) (d : Draft) (place : ℕ) → reading bytes ≡ Ok (d, place) → IsWellFormed d
