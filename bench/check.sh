@@ -1,13 +1,13 @@
 #!/usr/bin/env bash
-# Times `check` beside `LC_ALL=C wc -w` on the same bytes, on two inputs of the largest size: a small text with newlines behind it up to
-# 1,048,576 bytes, and a text of 512 core lines with as many words as a line may have. Run it after the program was proved and built.
-# Each is run often, and the fastest run counts.
+# Times `check` beside `LC_ALL=C wc -w` on the same bytes, on three inputs: MSI with newlines behind it up to 1,048,576 bytes, a text of
+# 512 core lines with as many words as a line may have, and a text at each limit, with 16 cache lines, 16 dir lines of 80 words, 32
+# messages and 512 core, take and row lines. Run it after the program was proved and built. Each is run often, and the fastest run counts.
 cd "$(dirname "$0")/.." || exit 2
 program=crates/protogen/out/protogen
 [ -x "$program" ] || { echo "bench: build the program first, by ./protogen" >&2; exit 2; }
 folder=$(mktemp -d)
 trap 'rm -rf "$folder"' EXIT
-{ cat bench/text.txt; head -c "$((1048576 - $(stat -c %s bench/text.txt)))" /dev/zero | tr '\0' '\n'; } >"$folder/newlines"
+{ cat protocols/msi.txt; head -c "$((1048576 - $(stat -c %s protocols/msi.txt)))" /dev/zero | tr '\0' '\n'; } >"$folder/newlines"
 awk 'BEGIN {
     state = "Sabcdefghijklmnopqrstuvw"; reply = "Dabcdefghijklmnopqrstuvw"
     print "protocol P\ncache " state " shared read\nrequest GetS read\nreply " reply " data"
@@ -18,7 +18,28 @@ awk 'BEGIN {
     }
     print "end"
 }' >"$folder/lines"
-python3 - "$program" "$folder/newlines" "$folder/lines" <<'PYTHON'
+awk 'function name(letter, number) { return sprintf("%sabcdefghijklmnopqrstu%02d", letter, number) }
+BEGIN {
+    print "protocol P"
+    for (k = 0; k < 16; k++) print "cache " name("S", k) " owner write"
+    for (k = 0; k < 16; k++) {
+        printf "dir %s owned", name("S", k)
+        for (state = 0; state < 77; state++) printf " %s", name("S", state % 16)
+        print ""
+    }
+    for (k = 0; k < 10; k++) print "request " name("R", k) " read"
+    for (k = 0; k < 11; k++) print "forward " name("F", k) " drop"
+    for (k = 0; k < 11; k++) print "reply " name("D", k) " data"
+    for (k = 0; k < 400; k++) {
+        printf "core %s load %s", name("S", k % 16), name("R", k % 10)
+        for (pair = 0; pair < 38; pair++) printf " %s %s", name("D", (k + pair) % 11), name("S", pair % 16)
+        print ""
+    }
+    for (k = 0; k < 56; k++) print "take " name("S", k % 16) " " name("F", k % 11) " " name("D", k % 11) " " name("S", k % 16)
+    for (k = 0; k < 56; k++) print "row " name("S", k % 16) " " name("R", k % 10) " other " name("F", k % 11) " " name("S", k % 16)
+    print "end"
+}' >"$folder/limits"
+python3 - "$program" "$folder/newlines" "$folder/lines" "$folder/limits" <<'PYTHON'
 import os, subprocess, sys, time
 program = sys.argv[1]
 def fastest(command, path):

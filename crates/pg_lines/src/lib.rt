@@ -9,3 +9,6 @@ mod words;
 pub use laws::{places_are_exact, written_texts_are_exact};
 pub use lines::split_line;
 pub use words::Words;
+
+#[cfg(test)]
+mod tests;

@@ -7,6 +7,12 @@ pub mod Judging
 pub mod Faults
 pub mod Progress
 pub mod Unique
+pub mod Growing
+pub mod WellFormed
+pub mod Declared
+pub mod Listed
+pub mod TakenIn
+pub mod ReadBack
 pub mod Parts
 pub mod NumbersAgain
 pub mod Plain

@@ -1,15 +1,16 @@
 //! Laws of the definitions that the contracts of this crate cite.
 
-ghost use Rattle.std.specs.Prelude.{◌≡◌, ◌≤◌, ◌↔◌, ℕ, List, [], codes, length};
+ghost use Rattle.std.specs.Prelude.{◌≡◌, ◌≤◌, ◌↔◌, ℕ, List, [], map, take, codes, length};
 ghost use Rattle.pg_perm.specs.declared.draft.Draft.{Draft};
 ghost use Rattle.pg_perm.specs.declared.fault.Fault.{Fault};
 ghost use Rattle.pg_perm.specs.Drafts.{IsWellFormed};
+ghost use Rattle.pg_lines.specs.Lines.{lines_of, words_of, place_behind};
 ghost use Rattle.pg_text.specs.declared.line.Line.{Line};
 ghost use Rattle.pg_text.specs.Forms.{spelling, IsWellNamed};
 ghost use Rattle.pg_text.specs.FormFaults.{IsFormFault};
 ghost use Rattle.pg_text.specs.Reading.{line_of};
 ghost use Rattle.pg_text.specs.Texts.{reading, IsText};
-ghost use Rattle.pg_text.specs.Printing.{printed, renumbered};
+ghost use Rattle.pg_text.specs.Printing.{lines_in, printed, renumbered};
 ghost use Rattle.pg_text.specs.Worked.{worked_draft};
 
 use pg_perm::Rule;
@@ -25,6 +26,12 @@ pub fn forms_are_exact()
 pub fn first_fault_is_exact()
     ensures fault { (bytes : List ℕ) (f : Fault) → (reading bytes ≡ Err f) ↔ IsFormFault bytes f }
     ensures text { (bytes : List ℕ) (d : Draft) (place : ℕ) → (reading bytes ≡ Ok (d, place)) ↔ IsText bytes d place }
+{}
+
+/// The lines of a text up to its end line are, word for word, those of the draft that was read, and the place is behind them.
+pub fn lines_are_kept()
+    ensures kept { (bytes : List ℕ) (d : Draft) (place : ℕ) → reading bytes ≡ Ok (d, place)
+        → (n : ℕ) × (map words_of (take n (lines_of bytes)) ≡ map spelling (lines_in d)) × (place ≡ place_behind n bytes) }
 {}
 
 /// What the rules say of small texts, one for each way to break one, and what one says that breaks none.

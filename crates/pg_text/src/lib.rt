@@ -15,7 +15,9 @@ mod states;
 mod text;
 
 pub use error::TextError;
-pub use laws::{first_fault_is_exact, forms_are_exact, printing_is_exact, worked_texts};
+pub use laws::{
+    first_fault_is_exact, forms_are_exact, lines_are_kept, printing_is_exact, worked_texts,
+};
 pub use printer::print;
 pub use text::read;
 

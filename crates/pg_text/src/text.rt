@@ -1,5 +1,6 @@
 ghost use Rattle.std.specs.Prelude.{◌≡◌, ◌<◌, length, IfOk};
 ghost use Rattle.pg_perm.specs.declared.fault.Fault.{Fault};
+ghost use Rattle.pg_perm.specs.Drafts.{IsWellFormed};
 ghost use Rattle.pg_text.specs.FormFaults.{IsFormFault};
 ghost use Rattle.pg_text.specs.Texts.{reading, IsText};
 ghost use Rattle.pg_text.specs.Answers.{Gives};
@@ -19,6 +20,7 @@ pub fn read(alloc: Global, bytes: &[u8]) -> Result<(Draft, u32), TextError>
     ensures exact { Gives result (reading bytes.now) }
     ensures fault { (f : Fault) → result ≡ Err (TextError.Form f) → IsFormFault bytes.now f }
     ensures text { IfOk result (λ x. IsText bytes.now x.0 x.1) }
+    ensures well_formed { IfOk result (λ x. IsWellFormed x.0) }
 {
     read_lines(alloc, bytes)
 }

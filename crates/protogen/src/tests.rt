@@ -5,27 +5,6 @@ use std::alloc::{AllocError, Global};
 use std::fmt::Write;
 use std::test::Fail;
 
-/// The lines of MSI's caches.
-const CACHE_PART: &[u8] = b"protocol MSI
-cache I out none
-cache S shared read
-cache M owner write
-request GetS read
-request GetM write
-request PutS clean
-request PutM dirty
-reply Data data
-core I load GetS Data S
-core I store GetM Data M
-core S load hit
-core S store GetM Data M
-core S evict PutS
-core M load hit
-core M store hit
-core M evict PutM
-end
-";
-
 const MSI: &[u8] = b"protocol MSI
 cache I out none
 cache S shared read
@@ -89,18 +68,51 @@ fn breaks(line: u32, rule: Rule) -> Status {
     Status::Text(Fault { line, rule })
 }
 
+/// MSI with an S that has no permission, and a cache line between its core lines.
+fn with_late_cache(alloc: Global) -> Result<Vec<u8>, AllocError> {
+    let mut text = Vec::new(alloc);
+    for (before, line) in MSI.split_inclusive(|byte| *byte == b'\n').enumerate() {
+        if before == 2 {
+            text.extend_from_slice(b"cache S shared none\n")?;
+        } else {
+            text.extend_from_slice(line)?;
+        }
+        if before == 15 {
+            text.extend_from_slice(b"cache X owner read\n")?;
+        }
+    }
+    Ok(text)
+}
+
 #[test]
 fn a_text_is_judged(rt: HostRuntime) -> Result<(), Fail> {
     let alloc = rt.alloc();
     for (text, wanted, line) in [
-        (CACHE_PART, Status::Done, "ok\n"),
-        (MSI, breaks(5, Rule::F1), "line 5 rule F1\n"),
-        (b"", breaks(1, Rule::F6), "line 1 rule F6\n"),
-        (b"protocol P\ncache I out none\nend\n", Status::Done, "ok\n"),
+        (MSI.to_vec(alloc)?, Status::Done, "ok\n"),
+        (Vec::new(alloc), breaks(1, Rule::F6), "line 1 rule F6\n"),
+        (
+            with_late_cache(alloc)?,
+            breaks(17, Rule::F2),
+            "line 17 rule F2\n",
+        ),
     ] {
-        let (status, written) = check(alloc, text.to_vec(alloc)?)?;
-        assert_eq!(rt; status, wanted, "{text:?}");
-        assert_eq!(rt; written.as_slice(), line.as_bytes(), "{text:?}");
+        let (status, written) = check(alloc, text)?;
+        assert_eq!(rt; status, wanted, "{line:?}");
+        assert_eq!(rt; written.as_slice(), line.as_bytes(), "{line:?}");
+    }
+    Ok(())
+}
+
+#[test]
+fn a_text_that_is_cut_lacks_its_end(rt: HostRuntime) -> Result<(), Fail> {
+    let alloc = rt.alloc();
+    let mut text = Vec::new(alloc);
+    let mut missing = 1;
+    for line in MSI.split_inclusive(|byte| *byte == b'\n').take(36) {
+        let (status, _) = check(alloc, text.to_vec(alloc)?)?;
+        assert_eq!(rt; status, breaks(missing, Rule::F6));
+        text.extend_from_slice(line)?;
+        missing += 1;
     }
     Ok(())
 }
@@ -110,13 +122,13 @@ fn other_words_read_nothing(rt: HostRuntime) -> Result<(), Fail> {
     let alloc = rt.alloc();
     for words in [[].as_slice(), &["chek"], &["check", "check"], &["--help"]] {
         let words = texts(alloc, words)?;
-        let mut source = MemorySource::new(CACHE_PART.to_vec(alloc)?, 100, Vec::new(alloc));
+        let mut source = MemorySource::new(MSI.to_vec(alloc)?, 100, Vec::new(alloc));
         let mut sink = MemorySink::new(alloc, 4096, 4096, Vec::new(alloc))?;
         let status = protogen(alloc, &words, &mut source, &mut sink);
         assert_eq!(rt; status, Status::Usage, "{words:?}");
         assert_eq!(rt; sink.held(), b"usage\n".as_slice(), "{words:?}");
         let left = read_all(alloc, &mut source, 4096)?;
-        assert_eq!(rt; left.as_slice(), CACHE_PART, "{words:?}");
+        assert_eq!(rt; left.as_slice(), MSI, "{words:?}");
     }
     Ok(())
 }
@@ -130,7 +142,7 @@ fn a_fault_is_told(rt: HostRuntime) -> Result<(), Fail> {
         (0, 2, Status::WriteFault, "ok"),
     ] {
         let fails = vec![in alloc; failing_read]?;
-        let mut source = MemorySource::new(CACHE_PART.to_vec(alloc)?, 100, fails);
+        let mut source = MemorySource::new(MSI.to_vec(alloc)?, 100, fails);
         let mut sink = MemorySink::new(alloc, 4096, 2, vec![in alloc; failing_write]?)?;
         let status = protogen(alloc, &words, &mut source, &mut sink);
         assert_eq!(rt; status, wanted);
@@ -143,8 +155,8 @@ fn a_fault_is_told(rt: HostRuntime) -> Result<(), Fail> {
 fn the_longest_input_is_judged(rt: HostRuntime) -> Result<(), Fail> {
     let alloc = rt.alloc();
     for (text, len, wanted, line) in [
-        (CACHE_PART, MOST_BYTES, Status::Done, "ok\n"),
-        (CACHE_PART, MOST_BYTES + 1, Status::TooLong, "too long\n"),
+        (MSI, MOST_BYTES, Status::Done, "ok\n"),
+        (MSI, MOST_BYTES + 1, Status::TooLong, "too long\n"),
         (
             b"protocol MSI\n",
             MOST_BYTES,

@@ -19,8 +19,8 @@ returns c =
     let rows : List Line = takes ++ map (row_line_of d) d.rows in
     let line : List ℕ = line_text (codes "protocol" ∷ d.name ∷ []) in
     let first = c.in_ok-put_line.ensures
-        ∙ ap (λ (w : List ℕ). string_bytes c.new-text.result ++ line_text (codes "protocol" ∷ w ∷ [])) c.as_str.ensures
-        ∙ ap (λ (t : List ℕ). t ++ line) c.new-text.ensures.bytes ∙ sym (append-nil line) in
+    ∙ ap (λ (w : List ℕ). string_bytes c.new-text.result ++ line_text (codes "protocol" ∷ w ∷ [])) c.as_str.ensures
+    ∙ ap (λ (t : List ℕ). t ++ line) c.new-text.ensures.bytes ∙ sym (append-nil line) in
     let at_caches = lines_put cache_line_of d.caches head _ _ first c.in_ok-put_lines.ensures in
     let at_dirs = lines_put (dir_line_of d) d.dirs caches _ _ at_caches c.in_ok-put_lines-2.ensures in
     let at_messages = lines_put message_line_of d.messages dirs _ _ at_dirs c.in_ok-put_lines-3.ensures in
