@@ -321,3 +321,10 @@ printed_short d w =
       k.limits.messages,
       k.limits.rules,
     )
+
+-- the same of the bytes that are the text
+pub bytes_read : (d : Draft) (bytes : List ℕ) → IsWellFormed d → bytes ≡ printed d → reading bytes ≡ Ok (renumbered d, length bytes)
+bytes_read d bytes w e = ap reading e ∙ printed_reads d w ∙ ap (λ (text : List ℕ). Ok (renumbered d, length text)) (sym e)
+
+pub bytes_short : (d : Draft) (bytes : List ℕ) → IsWellFormed d → bytes ≡ printed d → length bytes ≤ 1300000
+bytes_short d bytes w e = omega (arith, ap length e, printed_short d w)

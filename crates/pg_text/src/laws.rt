@@ -34,7 +34,7 @@ pub fn lines_are_kept()
         → (n : ℕ) × (map words_of (take n (lines_of bytes)) ≡ map spelling (lines_in d)) × (place ≡ place_behind n bytes) }
 {}
 
-/// What the rules say of small texts, one for each way to break one, and what one says that breaks none.
+/// What the rules say of small texts that break them, one for each rule at least, and what one says that breaks none.
 pub fn worked_texts()
     ensures no_line { reading [] ≡ Err (record { line = 1; rule = Rule.F6 }) }
     ensures no_end { reading (codes "protocol P\n") ≡ Err (record { line = 2; rule = Rule.F6 }) }
@@ -51,6 +51,7 @@ pub fn worked_texts()
         ≡ Err (record { line = 3; rule = Rule.F3 }) }
     ensures hit_is_no_request { reading (codes "protocol P\ncache S shared read\ncore S load hit Data S\nend\n")
         ≡ Err (record { line = 3; rule = Rule.F4 }) }
+    ensures too_many_words { reading (codes "protocol P\ncache I out none\ndir D mixed I I I I I I I I I I I I I I I I I I I I I I I I I I I I I I I I I I I I I I I I I I I I I I I I I I I I I I I I I I I I I I I I I I I I I I I I I I I I I I\nend\n") ≡ Err (record { line = 3; rule = Rule.F5 }) }
     ensures text { reading (codes "protocol P\ncache I out none\ncache S shared read\nrequest GetS read\nrequest PutS clean\nreply Data data\ncore I load GetS Data S\ncore S load hit\ncore S evict PutS\nend\ncores 2\n")
         ≡ Ok (worked_draft, 163) }
     ensures well_formed { IsWellFormed worked_draft }

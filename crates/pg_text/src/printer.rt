@@ -1,9 +1,10 @@
-ghost use Rattle.std.specs.Prelude.{◌≡◌, map, IfOk, Ok, length, ◌++◌, [], ◌∷◌, codes};
+ghost use Rattle.std.specs.Prelude.{◌≡◌, map, IfOk, Ok, length, ◌++◌, ◌≤◌};
 ghost use Rattle.std.specs.String.{string_bytes};
 ghost use Rattle.pg_lines.specs.Lines.{line_text, text_of};
 ghost use Rattle.pg_perm.specs.Drafts.{IsWellFormed};
 ghost use Rattle.pg_text.specs.Forms.{spelling};
-ghost use Rattle.pg_text.specs.Printing.{printed};
+ghost use Rattle.pg_text.specs.Printing.{printed, renumbered};
+ghost use Rattle.pg_text.specs.Texts.{reading};
 
 use crate::spelled::Spelled;
 use pg_perm::{Draft, Sequence};
@@ -39,9 +40,13 @@ fn put_lines<T: Spelled>(
 }
 
 /// The text of a draft, of which each line ends with a newline. docs/TEXT.md has the form of its lines.
+///
+/// It is read as the same draft, with its lines numbered from 1.
 pub fn print(alloc: Global, draft: &Draft) -> Result<Vec<u8>, AllocError>
     requires { IsWellFormed draft.now }
     ensures exact { IfOk result (λ text. text.items ≡ printed draft.now) }
+    ensures read_back { IfOk result (λ text. reading text.items ≡ Ok (renumbered draft.now, length text.items)) }
+    ensures short { IfOk result (λ text. length text.items ≤ 1300000) }
 {
     let mut text = String::new(alloc);
     put_line(alloc, &mut text, &["protocol", draft.name.as_str()])?;

@@ -1,5 +1,5 @@
 use Rattle.std.proofs.Common.{refl}
-use Rattle.pg_text.specs.Reading.{line_of, protocol_line, name_at, cache_line, state_at, request_line, reply_line, core_line, leaving_shape, end_line}
+use Rattle.pg_text.specs.Reading.{line_of, protocol_line, name_at, cache_line, state_at, dir_line, request_line, reply_line, core_line, leaving_shape, end_line}
 use Rattle.pg_text.specs.Numbering.{message_number, pair_of, core_form, core_of}
 use Rattle.pg_text.proofs.laws.worked_texts.Goals as goal
 
@@ -50,6 +50,10 @@ returns-clause-declared_twice c = refl
 pub returns-clause-hit_is_no_request : goal.returns-clause-hit_is_no_request
 unfolding line_of protocol_line name_at cache_line state_at request_line reply_line core_line leaving_shape end_line message_number pair_of core_form core_of
 returns-clause-hit_is_no_request c = refl
+
+pub returns-clause-too_many_words : goal.returns-clause-too_many_words
+unfolding line_of protocol_line name_at cache_line state_at dir_line request_line reply_line core_line leaving_shape end_line message_number pair_of core_form core_of
+returns-clause-too_many_words c = refl
 
 pub returns-clause-text : goal.returns-clause-text
 unfolding line_of protocol_line name_at cache_line state_at request_line reply_line core_line leaving_shape end_line message_number pair_of core_form core_of

@@ -5,10 +5,11 @@ use Rattle.pg_text.specs.declared.line.Line.{Line}
 use Rattle.pg_text.specs.declared.line.Line.TheVariants.{Protocol, End}
 use Rattle.pg_text.specs.Printing.{printed, cache_line_of, dir_line_of, message_line_of, core_line_of, take_line_of, row_line_of}
 use Rattle.pg_text.proofs.Joining.{lines_put}
+use Rattle.pg_text.proofs.Printed.{bytes_read, bytes_short}
 use Rattle.pg_text.proofs.printer.print.Goals as goal
 
-pub returns : goal.returns
-returns c =
+written : (c : goal.After-into_bytes) → c.into_bytes.result.items ≡ printed c.args.draft.now
+written c =
     let d = c.args.draft.now in
     let head : List Line = Protocol d.name ∷ [] in
     let caches : List Line = head ++ map cache_line_of d.caches in
@@ -28,4 +29,13 @@ returns c =
     let at_takes = lines_put (take_line_of d) d.takes cores _ _ at_cores c.in_ok-put_lines-5.ensures in
     let at_rows = lines_put (row_line_of d) d.rows takes _ _ at_takes c.in_ok-put_lines-6.ensures in
     let whole : string_bytes c.put_line-2.new.text ≡ printed d = lines_put (λ (l : Line). l) (End ∷ []) rows _ _ at_rows c.in_ok-put_line-2.ensures in
-    record { exact = ap (λ v. v.items) c.into_bytes.ensures.value ∙ whole }
+    ap (λ v. v.items) c.into_bytes.ensures.value ∙ whole
+
+pub returns-clause-exact : goal.returns-clause-exact
+returns-clause-exact c = written c
+
+pub returns-clause-read_back : goal.returns-clause-read_back
+returns-clause-read_back c = bytes_read c.args.draft.now c.into_bytes.result.items c.requires (written c)
+
+pub returns-clause-short : goal.returns-clause-short
+returns-clause-short c = bytes_short c.args.draft.now c.into_bytes.result.items c.requires (written c)
