@@ -2,5 +2,5 @@ pub mod Cuts
 pub mod Firsts
 pub mod Steps
 pub mod Places
-pub mod Tests
+pub mod Weaker
 pub mod Written

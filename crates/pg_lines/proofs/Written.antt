@@ -8,7 +8,7 @@ use Rattle.std.proofs.lemmas.List.Splits.{slice_split-cons_yes, slice_split-cons
 use Rattle.pg_lines.specs.Lines.{lines_of, words_of, without_empty_last, line_of_cut, cut_at, behind, place_behind, text_of, is_plain, are_plain}
 use Rattle.pg_lines.proofs.Places.{behind-lines}
 use Rattle.pg_lines.proofs.Steps.{lines_behind, lines_of-first}
-use Rattle.pg_lines.proofs.Tests.{all_weaker}
+use Rattle.pg_lines.proofs.Weaker.{all_weaker}
 
 -- no element passes the test
 abbrev has_none : (ℕ → Bool) → List ℕ → Bool

@@ -5,7 +5,7 @@ use Rattle.std.specs.List.{list_all}
 use Rattle.std.proofs.lemmas.Bool.{and_parts, and_from, ne_eqb, le-leb}
 use Rattle.std.proofs.lemmas.Bool.Decides.{nat_tests}
 use Rattle.pg_lines.specs.Lines.{is_plain}
-use Rattle.pg_lines.proofs.Tests.{all_weaker}
+use Rattle.pg_lines.proofs.Weaker.{all_weaker}
 use Rattle.pg_perm.specs.Names.{is_letter, is_digit, is_underscore, is_name_byte, is_name, is_state_name}
 use Rattle.pg_perm.proofs.Ascii.{length-name}
 use Rattle.pg_perm.specs.declared.kinds.Role.{Role}

@@ -5,7 +5,7 @@ use Rattle.std.specs.List.{join_with_byte, list_all}
 use Rattle.std.specs.Option.{option_map_or}
 use Rattle.std.proofs.lemmas.Bool.{and_parts, ne_eqb, le-ltb, leb-true}
 use Rattle.pg_lines.specs.Lines.{words_of, is_plain, are_plain}
-use Rattle.pg_lines.proofs.Tests.{all_weaker}
+use Rattle.pg_lines.proofs.Weaker.{all_weaker}
 use Rattle.pg_lines.proofs.Written.{words_written}
 use Rattle.pg_perm.specs.declared.draft.Draft.{Draft}
 use Rattle.pg_perm.specs.declared.draft.MsgLine.{MsgLine}
