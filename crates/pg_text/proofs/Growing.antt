@@ -10,6 +10,7 @@ use Rattle.std.proofs.lemmas.List.{map-append}
 use Rattle.std.proofs.lemmas.List.Folds.{list_all-append, list_any-append}
 use Rattle.pg_perm.proofs.Booleans.{both}
 use Rattle.pg_perm.specs.Drafts.{are_distinct, is_ordered, is_rising}
+use Rattle.pg_lines.proofs.Weaker.{all_weaker}
 
 -- one element is the length of one
 pub one_more : {A : Type 0} (xs : List A) (x : A) → length (xs ++ x ∷ []) ≡ length xs + 1
@@ -22,13 +23,6 @@ all_behind p xs x h g = list_all-append p xs (x ∷ []) ∙ and_from (list_all p
 -- none fails a test
 pub all_of_none : {A : Type 0} (p : A → Bool) (xs : List A) → xs ≡ [] → list_all p xs ≡ true
 all_of_none p xs e = ap (list_all p) e
-
--- what all pass, they pass as well by a test that is easier
-pub all_easier : {A : Type 0} (p q : A → Bool) (xs : List A) → ((x : A) → p x ≡ true → q x ≡ true) → list_all p xs ≡ true → list_all q xs ≡ true
-all_easier p q [] easier h = refl
-all_easier p q (x ∷ xs) easier h =
-    let t = both (p x) (list_all p xs) h in
-    and_from (q x) (list_all q xs) (easier x t.0) (all_easier p q xs easier t.1)
 
 -- distinct names stay distinct with a new one behind them
 pub distinct_behind : (ns : List (List ℕ)) (w : List ℕ) → are_distinct ns ≡ true → list_any (bytes_eq w) ns ≡ false → are_distinct (ns ++ w ∷ []) ≡ true
@@ -60,7 +54,7 @@ rising_behind (n ∷ m ∷ ns) c h g =
 -- numbers below n are below the number after it, and so is n
 pub below_behind : (ns : List ℕ) (n : ℕ) → list_all (λ m. nat_lt m n) ns ≡ true → list_all (λ m. nat_lt m (n + 1)) (ns ++ n ∷ []) ≡ true
 below_behind ns n h =
-    all_behind (λ m. nat_lt m (n + 1)) ns n (all_easier (λ m. nat_lt m n) (λ m. nat_lt m (n + 1)) ns (λ m g. lt-ltb m (n + 1) (omega (arith, ltb-true m n g))) h)
+    all_behind (λ m. nat_lt m (n + 1)) ns n (all_weaker (λ m. nat_lt m n) (λ m. nat_lt m (n + 1)) ns (λ m g. lt-ltb m (n + 1) (omega (arith, ltb-true m n g))) h)
     (lt-ltb n (n + 1) (omega arith))
 
 -- lists of nothing make a list of nothing

@@ -11,7 +11,8 @@ use Rattle.pg_perm.specs.declared.draft.CoreLine.{CoreLine}
 use Rattle.pg_perm.specs.declared.draft.TakeLine.{TakeLine}
 use Rattle.pg_perm.specs.declared.draft.RowLine.{RowLine}
 use Rattle.pg_perm.specs.Classes.{class_rank}
-use Rattle.pg_text.proofs.Growing.{all_easier, last_of, behind_front, map_behind, map_none}
+use Rattle.pg_lines.proofs.Weaker.{all_weaker}
+use Rattle.pg_text.proofs.Growing.{last_of, behind_front, map_behind, map_none}
 
 -- the draft has no lines of kinds behind this place in the order
 pub record IsBefore (d : Draft) (r : ℕ) : Type 0 where
@@ -31,7 +32,7 @@ before_later d r s h b =
       no_cores = λ g. b.no_cores (omega (arith, h, g));
       no_takes = λ g. b.no_takes (omega (arith, h, g));
       no_rows = λ g. b.no_rows (omega (arith, h, g));
-      ranked = all_easier (λ (m : MsgLine). nat_le (3 + class_rank m.class) r) (λ m. nat_le (3 + class_rank m.class) s) d.messages
+      ranked = all_weaker (λ (m : MsgLine). nat_le (3 + class_rank m.class) r) (λ m. nat_le (3 + class_rank m.class) s) d.messages
           (λ m g. le-leb (3 + class_rank m.class) s (omega (arith, h, leb-true (3 + class_rank m.class) r g))) b.ranked;
     }
 

@@ -40,7 +40,8 @@ use Rattle.pg_text.specs.Texts.{judge, read_on, read_lines, reading}
 use Rattle.pg_text.proofs.Options.{mapped, same_ok}
 use Rattle.pg_text.proofs.Spellings.{found}
 use Rattle.pg_text.proofs.TakenIn.{IsTakenIn, taken_in}
-use Rattle.pg_text.proofs.Growing.{one_more, all_behind, all_of_none, all_easier}
+use Rattle.pg_lines.proofs.Weaker.{all_weaker}
+use Rattle.pg_text.proofs.Growing.{one_more, all_behind, all_of_none}
 use Rattle.pg_text.proofs.Growing.{distinct_behind, ordered_behind, rising_behind, below_behind, map_behind, all_images_behind}
 use Rattle.pg_text.proofs.Listed.{Listing, IsBefore, before_later, cache_last, dir_last, message_last, core_last, take_last, row_last}
 use Rattle.pg_text.proofs.Declared.{states_found, shape_pairs, core_found, take_found, row_found}
@@ -126,7 +127,7 @@ lines_later : (n : ℕ) (numbers : List ℕ) → AreLines n numbers → AreLines
 lines_later n numbers l =
     record {
       rise = l.rise;
-      below = all_easier (λ m. nat_lt m n) (λ m. nat_lt m (n + 1)) numbers (λ m g. lt-ltb m (n + 1) (omega (arith, ltb-true m n g))) l.below;
+      below = all_weaker (λ m. nat_lt m n) (λ m. nat_lt m (n + 1)) numbers (λ m g. lt-ltb m (n + 1) (omega (arith, ltb-true m n g))) l.below;
     }
 
 -- one more is within a limit that isn't reached
@@ -221,7 +222,7 @@ message_step d n m grew rank line named free new room =
     let rows = b.no_rows (omega (arith, rank)) in
     let ranks : list_all (λ r. nat_le r (class_rank m.class)) (map (λ (x : MsgLine). class_rank x.class) d.messages) ≡ true =
     list_all-map (λ r. nat_le r (class_rank m.class)) (λ (x : MsgLine). class_rank x.class) d.messages
-    ∙ all_easier (λ (x : MsgLine). nat_le (3 + class_rank x.class) (3 + class_rank m.class)) (λ x. nat_le (class_rank x.class) (class_rank m.class)) d.messages
+    ∙ all_weaker (λ (x : MsgLine). nat_le (3 + class_rank x.class) (3 + class_rank m.class)) (λ x. nat_le (class_rank x.class) (class_rank m.class)) d.messages
     (λ x h. le-leb (class_rank x.class) (class_rank m.class) (omega (arith, leb-true (3 + class_rank x.class) (3 + class_rank m.class) h))) b.ranked in (
       record {
         named = g.named;
