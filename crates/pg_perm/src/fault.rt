@@ -1,7 +1,7 @@
 ghost use Rattle.std.specs.Prelude.{◌≡◌};
 ghost use Rattle.pg_perm.specs.Rules.{rule_name};
 
-/// A rule that a line can break. F1 to F6 are of the form of a text.
+/// A rule that a line can break. F1 to F6 are of the form of a text, S1 to S19 of the shape of its protocol; docs/TEXT.md states them.
 #[derive(Clone, Copy, Debug, PartialEq, Eq)]
 pub enum Rule {
     F1,
@@ -10,6 +10,25 @@ pub enum Rule {
     F4,
     F5,
     F6,
+    S1,
+    S2,
+    S3,
+    S4,
+    S5,
+    S6,
+    S7,
+    S8,
+    S9,
+    S10,
+    S11,
+    S12,
+    S13,
+    S14,
+    S15,
+    S16,
+    S17,
+    S18,
+    S19,
 }
 
 impl Rule {
@@ -24,6 +43,25 @@ impl Rule {
             Rule::F4 => "F4",
             Rule::F5 => "F5",
             Rule::F6 => "F6",
+            Rule::S1 => "S1",
+            Rule::S2 => "S2",
+            Rule::S3 => "S3",
+            Rule::S4 => "S4",
+            Rule::S5 => "S5",
+            Rule::S6 => "S6",
+            Rule::S7 => "S7",
+            Rule::S8 => "S8",
+            Rule::S9 => "S9",
+            Rule::S10 => "S10",
+            Rule::S11 => "S11",
+            Rule::S12 => "S12",
+            Rule::S13 => "S13",
+            Rule::S14 => "S14",
+            Rule::S15 => "S15",
+            Rule::S16 => "S16",
+            Rule::S17 => "S17",
+            Rule::S18 => "S18",
+            Rule::S19 => "S19",
         }
     }
 }

@@ -36,5 +36,6 @@ fn lists(rt: HostRuntime) -> Result<(), Fail> {
     assert!(rt; word == word.clone()?);
     assert_eq!(rt; same.into_vec().len(), 2);
     assert_eq!(rt; Rule::F6.name(), "F6");
+    assert_eq!(rt; Rule::S19.name(), "S19");
     Ok(())
 }

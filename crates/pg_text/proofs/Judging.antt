@@ -3,14 +3,15 @@ use Rattle.std.proofs.Common.{◌≡◌, ℕ, ◌≤◌, Bool, true, false, List
 use Rattle.std.specs.Prelude.{◌||◌, nat_lt, length, is_none, unwrap_or}
 use Rattle.pg_perm.specs.declared.draft.Draft.{Draft}
 use Rattle.pg_perm.specs.declared.fault.Rule.{Rule}
-use Rattle.pg_perm.specs.declared.fault.Rule.TheVariants.{F1, F2, F3, F4, F5, F6}
+use Rattle.pg_perm.specs.declared.fault.Rule.TheVariants.{F1, F2, F3, F4, F5}
+use Rattle.pg_perm.specs.Rules.{rule_rank}
 use Rattle.pg_text.specs.declared.line.Kind.{Kind}
 use Rattle.pg_text.specs.declared.line.Line.{Line}
 use Rattle.pg_lines.specs.Lines.{words_of}
 use Rattle.pg_text.specs.Kinds.{kind_of}
 use Rattle.pg_text.specs.Reading.{line_of}
 use Rattle.pg_text.specs.Numbering.{with_line, is_taken, is_full}
-use Rattle.pg_text.specs.FormFaults.{Above, is_out_of_order, breaks, below, after, rule_rank}
+use Rattle.pg_text.specs.FormFaults.{Above, is_out_of_order, breaks, below, after}
 use Rattle.pg_text.specs.Texts.{judged, judge}
 use Rattle.pg_text.proofs.Options.{same_err, same_ok}
 
@@ -29,7 +30,7 @@ broken order taken more over F2 = order
 broken order taken more over F3 = taken
 broken order taken more over F4 = is_none more
 broken order taken more over F5 = over
-broken order taken more over F6 = false
+broken order taken more over _ = false
 
 -- no rule before F2 is among the broken ones
 from_F2 : (order taken over : Bool) (more : Option Draft) (Q : Rule) → broken order taken more over Q ≡ true → 2 ≤ rule_rank Q
@@ -121,13 +122,13 @@ breaks_is above n ws None e F2 = rw e refl
 breaks_is above n ws None e F3 = rw e refl
 breaks_is above n ws None e F4 = rw e refl
 breaks_is above n ws None e F5 = rw e refl
-breaks_is above n ws None e F6 = refl
+breaks_is above n ws None e _ = refl
 breaks_is above n ws (Some l) e F1 = rw e refl
 breaks_is above n ws (Some l) e F2 = rw e refl
 breaks_is above n ws (Some l) e F3 = rw e refl
 breaks_is above n ws (Some l) e F4 = rw e refl
 breaks_is above n ws (Some l) e F5 = rw e refl
-breaks_is above n ws (Some l) e F6 = refl
+breaks_is above n ws (Some l) e _ = refl
 
 -- no rule comes before F1
 from_F1 : (Q : Rule) → 1 ≤ rule_rank Q

@@ -1,45 +1,15 @@
 -- A text has one first fault, or one draft and place.
-use Rattle.std.proofs.Common.{◌≡◌, ℕ, zero, suc, List, Result, Ok, Err, refl, sym, ap, ◌∙◌, arith, subst, inl, inr}
+use Rattle.std.proofs.Common.{◌≡◌, ℕ, List, Result, Ok, Err, refl, sym, ap, ◌∙◌, subst}
 use Rattle.std.specs.Prelude.{IfOk}
 use Rattle.pg_perm.specs.declared.draft.Draft.{Draft}
 use Rattle.pg_perm.specs.declared.fault.Fault.{Fault}
-use Rattle.pg_perm.specs.declared.fault.Rule.{Rule}
-use Rattle.pg_perm.specs.declared.fault.Rule.TheVariants.{F1, F2, F3, F4, F5, F6}
+use Rattle.pg_perm.proofs.Ranks.{same_fault}
 use Rattle.pg_text.specs.declared.error.TextError.{TextError}
 use Rattle.pg_text.specs.declared.error.TextError.TheVariants as error
 use Rattle.pg_text.specs.Answers.{Gives}
-use Rattle.pg_text.specs.FormFaults.{IsNoLater, IsFormFault, rule_rank}
+use Rattle.pg_text.specs.FormFaults.{IsFormFault}
 use Rattle.pg_text.specs.Texts.{reading, IsText}
 use Rattle.pg_text.proofs.Faults.{fault, text}
-
--- the rule at a place
-rule_at : ℕ → Rule
-rule_at zero = F1
-rule_at (suc zero) = F1
-rule_at (suc (suc zero)) = F2
-rule_at (suc (suc (suc zero))) = F3
-rule_at (suc (suc (suc (suc zero)))) = F4
-rule_at (suc (suc (suc (suc (suc zero))))) = F5
-rule_at (suc (suc (suc (suc (suc (suc n)))))) = F6
-
-rule_at-rank : (R : Rule) → rule_at (rule_rank R) ≡ R
-unfolding rule_at
-rule_at-rank F1 = refl
-rule_at-rank F2 = refl
-rule_at-rank F3 = refl
-rule_at-rank F4 = refl
-rule_at-rank F5 = refl
-rule_at-rank F6 = refl
-
--- each of two faults that come before the other is the other
-same_fault : (f g : Fault) → IsNoLater f g.line g.rule → IsNoLater g f.line f.rule → f ≡ g
-same_fault f g (inl before) (inl behind) = absurd (omega arith)
-same_fault f g (inl before) (inr behind) = absurd (omega (arith, behind.0))
-same_fault f g (inr before) (inl behind) = absurd (omega (arith, before.0))
-same_fault f g (inr before) (inr behind) =
-    let ranks : rule_rank f.rule ≡ rule_rank g.rule = omega (arith, before.1, behind.1) in
-    let rules : f.rule ≡ g.rule = sym (rule_at-rank f.rule) ∙ ap rule_at ranks ∙ rule_at-rank g.rule in
-    ap (λ (l : ℕ). record { line = l; rule = f.rule }) before.0 ∙ ap (λ (r : Rule). record { line = g.line; rule = r }) rules
 
 -- the first fault is what reading gives
 pub only_fault : (bytes : List ℕ) (f : Fault) → IsFormFault bytes f → reading bytes ≡ Err f

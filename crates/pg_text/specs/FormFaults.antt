@@ -1,10 +1,11 @@
 -- The rules of the form of a text, and its first fault.
-use Rattle.std.specs.Prelude.{ℕ, ◌≡◌, ◌<◌, ◌≤◌, ◌+◌, ◌⊎◌, Bool, false, not, ◌||◌, ◌==◌, nat_lt, List, [], ◌∷◌, length, Option, Some, None, is_none, IsTrue, unwrap_or, codes, if◌then◌else◌}
+use Rattle.std.specs.Prelude.{ℕ, ◌≡◌, ◌+◌, ◌⊎◌, Bool, false, not, ◌||◌, ◌==◌, nat_lt, List, [], ◌∷◌, length, Option, Some, None, is_none, IsTrue, unwrap_or, codes, if◌then◌else◌}
 use Rattle.std.specs.Option.{option_map_or}
 use Rattle.pg_perm.specs.declared.draft.Draft.{Draft}
 use Rattle.pg_perm.specs.declared.fault.Fault.{Fault}
 use Rattle.pg_perm.specs.declared.fault.Rule.{Rule}
 use Rattle.pg_perm.specs.declared.fault.Rule.TheVariants.{F1, F2, F3, F4, F5, F6}
+use Rattle.pg_perm.specs.Rules.{IsNoLater}
 use Rattle.pg_text.specs.declared.line.Kind.{Kind}
 use Rattle.pg_text.specs.declared.line.Line.{Line}
 use Rattle.pg_lines.specs.Lines.{lines_of, words_of}
@@ -36,7 +37,7 @@ breaks above n ws F2 = option_map_or (λ l. is_out_of_order n above.kind (kind_o
 breaks above n ws F3 = option_map_or (λ l. is_taken above.draft l) (line_of ws) false
 breaks above n ws F4 = option_map_or (λ l. is_none (with_line above.draft n l)) (line_of ws) false
 breaks above n ws F5 = nat_lt 80 (length ws) || option_map_or (λ l. is_full above.draft l) (line_of ws) false
-breaks above n ws F6 = false
+breaks above n ws R = false
 
 -- the lines above, and below them line n; a line that uses a name which is not declared declares nothing and isn't counted
 abbrev pub below : Above → ℕ → Option Line → Above
@@ -60,19 +61,6 @@ BreaksIn above n (line ∷ lines) L R = ((L ≡ n) × IsTrue (breaks above n (wo
 -- line L of the text breaks rule R
 abbrev pub Breaks : List ℕ → ℕ → Rule → Type 0
 Breaks bytes L R = BreaksIn nothing 1 (lines_of bytes) L R
-
--- the place of a rule among the rules
-abbrev pub rule_rank : Rule → ℕ
-rule_rank F1 = 1
-rule_rank F2 = 2
-rule_rank F3 = 3
-rule_rank F4 = 4
-rule_rank F5 = 5
-rule_rank F6 = 6
-
--- a fault is no later than a line and a rule: by the line, and then by the rule
-abbrev pub IsNoLater : Fault → ℕ → Rule → Type 0
-IsNoLater f L R = (f.line < L) ⊎ ((f.line ≡ L) × (rule_rank f.rule ≤ rule_rank R))
 
 -- the first fault of a text
 pub record IsFormFault (bytes : List ℕ) (f : Fault) : Type 0 where

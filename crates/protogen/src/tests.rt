@@ -107,12 +107,10 @@ fn a_text_is_judged(rt: HostRuntime) -> Result<(), Fail> {
 fn a_text_that_is_cut_lacks_its_end(rt: HostRuntime) -> Result<(), Fail> {
     let alloc = rt.alloc();
     let mut text = Vec::new(alloc);
-    let mut missing = 1;
-    for line in MSI.split_inclusive(|byte| *byte == b'\n').take(36) {
+    for (line, missing) in MSI.split_inclusive(|byte| *byte == b'\n').zip(1..37) {
         let (status, _) = check(alloc, text.to_vec(alloc)?)?;
         assert_eq!(rt; status, breaks(missing, Rule::F6));
         text.extend_from_slice(line)?;
-        missing += 1;
     }
     Ok(())
 }
