@@ -1,0 +1,73 @@
+-- The rules that a cache line breaks.
+use Rattle.std.specs.Prelude.{ℕ, zero, suc, ◌≡◌, Bool, true, false, not, ◌==◌, ◌&&◌, ◌||◌, nat_lt, nat_le, List, [], ◌∷◌, length, slice_get, take, Option, Some, None, is_none, is_some, position, find, IsTrue, ◌⊎◌}
+use Rattle.std.specs.List.{list_any, list_all, filter}
+use Rattle.std.specs.Option.{option_map, option_map_or, option_and_then}
+use Rattle.pg_perm.specs.declared.draft.Draft.{Draft}
+use Rattle.pg_perm.specs.declared.draft.CacheLine.{CacheLine}
+use Rattle.pg_perm.specs.declared.draft.DirLine.{DirLine}
+use Rattle.pg_perm.specs.declared.draft.RowLine.{RowLine}
+use Rattle.pg_perm.specs.declared.kinds.FwdClass.TheVariants.{Inv, Share, Keep, Drop}
+use Rattle.pg_perm.specs.declared.kinds.Event.{Event}
+use Rattle.pg_perm.specs.declared.kinds.Event.TheVariants.{Load, Store, Evict}
+use Rattle.pg_perm.specs.declared.fault.Rule.{Rule}
+use Rattle.pg_perm.specs.declared.fault.Rule.TheVariants.{S1, S2, S3, S4, S5, S6, S7, S8, S9, S10, S11, S12, S13, S14, S15, S16, S17, S18, S19}
+use Rattle.pg_shape.specs.Terms.{is_out, is_shared, is_owner, is_none_perm, is_read_perm, is_write_perm, same_event, same_who, same_left, same_request, is_request_of, is_forward_of, is, is_other, is_write_owner, is_read_owner, cache_is, out, shared, request_of, forward_of, has_class, listed, lists_state, lists, core_row, take_row, is_case, dir_row, keep_of}
+use Rattle.pg_shape.specs.Due.{same_kind, kind_is, forward_in, is_to_owner, is_passed_to, is_due, due_cases, cases_at, same_reply, is_row_for, is_row_from, is_load_reply, is_store_reply}
+
+-- out without none, shared without read, or an owner with none
+abbrev pub has_wrong_perm : CacheLine → Bool
+has_wrong_perm c = (is_out c.role && not (is_none_perm c.perm)) || (is_shared c.role && not (is_read_perm c.perm))
+    || (is_owner c.role && is_none_perm c.perm)
+
+-- there is a cache line of this role above it
+abbrev pub has_out : List CacheLine → Bool
+has_out above = list_any (λ c. is_out c.role) above
+
+abbrev pub has_shared : List CacheLine → Bool
+has_shared above = list_any (λ c. is_shared c.role) above
+
+abbrev pub owners : List CacheLine → ℕ
+owners above = length (filter (λ c. is_owner c.role) above)
+
+-- a second out, a second shared, or an owner below 12 others
+abbrev pub is_one_too_many : List CacheLine → CacheLine → Bool
+is_one_too_many above c = (is_out c.role && has_out above) || (is_shared c.role && has_shared above)
+    || (is_owner c.role && nat_le 12 (owners above))
+
+-- clean, and no owner
+abbrev pub is_needlessly_clean : CacheLine → Bool
+is_needlessly_clean c = c.clean && not (is_owner c.role)
+
+-- some directory state lists the cache state
+abbrev pub is_listed : Draft → ℕ → Bool
+is_listed d s = list_any (λ l. lists_state l.beside s) d.dirs
+
+-- an owner that no directory state lists
+abbrev pub is_unlisted : Draft → ℕ → CacheLine → Bool
+is_unlisted d s c = is_owner c.role && not (is_listed d s)
+
+-- no core line for load, for store, or, at a state that isn't out, for evict
+abbrev pub lacks_core_lines : Draft → ℕ → Bool
+lacks_core_lines d s = is_none (core_row d s Load) || is_none (core_row d s Store) || (not (is (out d) s) && is_none (core_row d s Evict))
+
+-- the shared state without a take line for the inv forward
+abbrev pub lacks_inv_line : Draft → ℕ → Bool
+lacks_inv_line d s = option_map_or (λ f. is (shared d) s && is_none (take_row d s f)) (forward_of d Inv) false
+
+-- a row line passes a request on to an owner that may be in this state, which has no take line for that forward
+abbrev pub lacks_answer : Draft → ℕ → RowLine → Bool
+lacks_answer d s r = option_map_or (λ f. is_to_owner d f && is_none (take_row d s f) && lists d r.dir s) (forward_in r.form) false
+
+-- a due pair of this state without a take line
+abbrev pub lacks_take_lines : Draft → ℕ → CacheLine → Bool
+lacks_take_lines d s c = lacks_inv_line d s || (is_owner c.role && list_any (lacks_answer d s) d.rows)
+
+-- what the line of cache state s breaks
+abbrev pub cache_breaks : Draft → ℕ → CacheLine → Rule → Bool
+cache_breaks d s c S1 = has_wrong_perm c
+cache_breaks d s c S2 = is_one_too_many (take s d.caches) c
+cache_breaks d s c S3 = is_needlessly_clean c
+cache_breaks d s c S4 = is_unlisted d s c
+cache_breaks d s c S8 = lacks_core_lines d s
+cache_breaks d s c S13 = lacks_take_lines d s c
+cache_breaks d s c R = false

@@ -1,0 +1,68 @@
+-- The rules that a dir line breaks.
+use Rattle.std.specs.Prelude.{ℕ, zero, suc, ◌≡◌, Bool, true, false, not, ◌==◌, ◌&&◌, ◌||◌, nat_lt, nat_le, List, [], ◌∷◌, length, slice_get, take, Option, Some, None, is_none, is_some, position, find, IsTrue, ◌⊎◌}
+use Rattle.std.specs.List.{list_any, list_all, filter}
+use Rattle.std.specs.Option.{option_map, option_map_or, option_and_then}
+use Rattle.pg_perm.specs.declared.draft.Draft.{Draft}
+use Rattle.pg_perm.specs.declared.draft.DirLine.{DirLine}
+use Rattle.pg_perm.specs.declared.kinds.DirKind.{DirKind}
+use Rattle.pg_perm.specs.declared.kinds.DirKind.TheVariants as kind
+use Rattle.pg_shape.specs.declared.cases.DirCase.{DirCase}
+use Rattle.pg_shape.specs.declared.cases.DirCase.TheVariants as case
+use Rattle.pg_perm.specs.declared.fault.Rule.{Rule}
+use Rattle.pg_perm.specs.declared.fault.Rule.TheVariants.{S1, S2, S3, S4, S5, S6, S7, S8, S9, S10, S11, S12, S13, S14, S15, S16, S17, S18, S19}
+use Rattle.pg_shape.specs.Terms.{is_out, is_shared, is_owner, is_none_perm, is_read_perm, is_write_perm, same_event, same_who, same_left, same_request, is_request_of, is_forward_of, is, is_other, is_write_owner, is_read_owner, cache_is, out, shared, request_of, forward_of, has_class, listed, lists_state, lists, core_row, take_row, is_case, dir_row, keep_of}
+use Rattle.pg_shape.specs.Due.{same_kind, kind_is, forward_in, is_to_owner, is_passed_to, is_due, due_cases, cases_at, same_reply, is_row_for, is_row_from, is_load_reply, is_store_reply}
+
+abbrev pub is_idle : DirLine → Bool
+is_idle l = same_kind kind.Idle l.kind
+
+-- a second idle
+abbrev pub is_second_idle : List DirLine → DirLine → Bool
+is_second_idle above l = is_idle l && list_any is_idle above
+
+-- idle and shared have no owner
+abbrev pub has_no_owner : DirKind → Bool
+has_no_owner k = same_kind kind.Idle k || same_kind kind.Shared k
+
+abbrev pub is_empty : List ℕ → Bool
+is_empty [] = true
+is_empty (s ∷ states) = false
+
+-- idle or shared that lists states, or owned or mixed that lists none
+abbrev pub lists_wrong_number : DirLine → Bool
+lists_wrong_number l = (has_no_owner l.kind && not (is_empty l.beside)) || (not (has_no_owner l.kind) && is_empty l.beside)
+
+-- a state stands twice in a list
+abbrev pub has_twice : List ℕ → Bool
+has_twice [] = false
+has_twice (s ∷ states) = lists_state states s || has_twice states
+
+-- a listed state is no owner
+abbrev pub lists_another : Draft → DirLine → Bool
+lists_another d l = list_any (λ s. not (cache_is (λ c. is_owner c.role) d s)) l.beside
+
+-- mixed lists an owner that may write
+abbrev pub mixes_a_writer : Draft → DirLine → Bool
+mixes_a_writer d l = same_kind kind.Mixed l.kind && list_any (cache_is is_write_owner d) l.beside
+
+-- kind shared or mixed, and there is no shared state
+abbrev pub lacks_shared : Draft → DirLine → Bool
+lacks_shared d l = (same_kind kind.Shared l.kind || same_kind kind.Mixed l.kind) && is_none (shared d)
+
+abbrev pub lists_wrongly : Draft → List DirLine → DirLine → Bool
+lists_wrongly d above l = is_second_idle above l || lists_wrong_number l || has_twice l.beside || lists_another d l || mixes_a_writer d l || lacks_shared d l
+
+-- the case is there, and has no row line
+abbrev pub lacks_row : Draft → ℕ → DirCase → Bool
+lacks_row d n (case.Ask class who) = is_some (request_of d class) && is_none (dir_row d n (case.Ask class who))
+lacks_row d n (case.Evict who left) = is_none (dir_row d n (case.Evict who left))
+
+-- a due case of this state without a row line
+abbrev pub lacks_rows : Draft → ℕ → Bool
+lacks_rows d n = list_any (lacks_row d n) (cases_at d n)
+
+-- what the line of directory state n breaks
+abbrev pub dir_breaks : Draft → ℕ → DirLine → Rule → Bool
+dir_breaks d n l S4 = lists_wrongly d (take n d.dirs) l
+dir_breaks d n l S18 = lacks_rows d n
+dir_breaks d n l R = false

@@ -1,0 +1,13 @@
+pub mod Terms
+pub mod Due
+pub mod TextRules
+pub mod CacheRules
+pub mod DirRules
+pub mod MessageRules
+pub mod CoreRules
+pub mod TakeRules
+pub mod RowRules
+pub mod NextRules
+pub mod ShapeFaults
+pub mod FirstFaults
+pub mod Answers

@@ -1,0 +1,82 @@
+-- The rules that a row line breaks.
+use Rattle.std.specs.Prelude.{ℕ, zero, suc, ◌≡◌, Bool, true, false, not, ◌==◌, ◌&&◌, ◌||◌, nat_lt, nat_le, List, [], ◌∷◌, length, slice_get, take, Option, Some, None, is_none, is_some, position, find, IsTrue, ◌⊎◌}
+use Rattle.std.specs.List.{list_any, list_all, filter}
+use Rattle.std.specs.Option.{option_map, option_map_or, option_and_then}
+use Rattle.pg_perm.specs.declared.kinds.DirKind.{DirKind}
+use Rattle.pg_perm.specs.declared.kinds.DirKind.TheVariants as kind
+use Rattle.pg_perm.specs.declared.kinds.Who.{Who}
+use Rattle.pg_perm.specs.declared.kinds.Who.TheVariants.{Other, Sharer, Owner}
+use Rattle.pg_perm.specs.declared.kinds.Left.{Left}
+use Rattle.pg_perm.specs.declared.kinds.Left.TheVariants.{Last, More}
+use Rattle.pg_perm.specs.declared.kinds.ReqClass.{ReqClass}
+use Rattle.pg_perm.specs.declared.kinds.ReqClass.TheVariants.{Read, Write, Clean, Dirty}
+use Rattle.pg_perm.specs.declared.kinds.FwdClass.{FwdClass}
+use Rattle.pg_perm.specs.declared.kinds.FwdClass.TheVariants.{Inv, Share, Keep, Drop}
+use Rattle.pg_perm.specs.declared.draft.Draft.{Draft}
+use Rattle.pg_perm.specs.declared.draft.RowLine.{RowLine}
+use Rattle.pg_perm.specs.declared.draft.RowForm.{RowForm}
+use Rattle.pg_perm.specs.declared.draft.RowForm.TheVariants as form
+use Rattle.pg_perm.specs.declared.draft.Action.{Action}
+use Rattle.pg_perm.specs.declared.draft.Action.TheVariants as action
+use Rattle.pg_shape.specs.declared.cases.DirCase.{DirCase}
+use Rattle.pg_shape.specs.declared.cases.DirCase.TheVariants as case
+use Rattle.pg_perm.specs.declared.fault.Rule.{Rule}
+use Rattle.pg_perm.specs.declared.fault.Rule.TheVariants.{S1, S2, S3, S4, S5, S6, S7, S8, S9, S10, S11, S12, S13, S14, S15, S16, S17, S18, S19}
+use Rattle.pg_shape.specs.Terms.{is_out, is_shared, is_owner, is_none_perm, is_read_perm, is_write_perm, same_event, same_who, same_left, same_request, is_request_of, is_forward_of, is, is_other, is_write_owner, is_read_owner, cache_is, out, shared, request_of, forward_of, has_class, listed, lists_state, lists, core_row, take_row, is_case, dir_row, keep_of}
+use Rattle.pg_shape.specs.Due.{same_kind, kind_is, forward_in, is_to_owner, is_passed_to, is_due, due_cases, cases_at, same_reply, is_row_for, is_row_from, is_load_reply, is_store_reply}
+use Rattle.pg_shape.specs.NextRules.{leads_rightly}
+
+-- two row lines of one directory state are for the same: they have the same third and fourth words and, for evicts, the same fifth
+abbrev pub same_words : RowForm → RowForm → Bool
+same_words (form.Ask request who action) (form.Ask q w a) = (request == q) && same_who who w
+same_words (form.Evict who left) (form.Evict w l) = same_who who w && same_left left l
+same_words _ _ = false
+
+-- a row line above it is for the same
+abbrev pub has_row_line : List RowLine → RowLine → Bool
+has_row_line above r = list_any (λ x. (x.dir == r.dir) && same_words x.form r.form) above
+
+-- it is for no case that is due
+abbrev pub is_not_due : Draft → RowLine → Bool
+is_not_due d r = not (list_any (is_case d r.form) (cases_at d r.dir))
+
+abbrev pub is_reply : Action → Bool
+is_reply (action.Reply m) = true
+is_reply (action.Forward f) = false
+is_reply action.Count = false
+
+abbrev pub is_count : Action → Bool
+is_count (action.Reply m) = false
+is_count (action.Forward f) = false
+is_count action.Count = true
+
+-- the action passes the request on with a forward of a class
+abbrev pub forwards : FwdClass → Draft → Action → Bool
+forwards class d (action.Reply m) = false
+forwards class d (action.Forward f) = has_class class d f
+forwards class d action.Count = false
+
+-- READ, where there is an owner
+abbrev pub reads_by : Draft → ℕ → Action → Bool
+reads_by d n action = (not (kind_is kind.Owned d n) || forwards Share d action || forwards Keep d action || forwards Drop d action)
+    && (not (kind_is kind.Mixed d n) || forwards Share d action || forwards Keep d action)
+
+-- WRITE: of another or a sharer where there is an owner, and of an owner
+abbrev pub writes_by : Draft → ℕ → Who → Action → Bool
+writes_by d n Other action = not (kind_is kind.Owned d n || kind_is kind.Mixed d n) || forwards Drop d action
+writes_by d n Sharer action = not (kind_is kind.Owned d n || kind_is kind.Mixed d n) || forwards Drop d action
+writes_by d n Owner action = is_count action
+
+-- the action is none that the case may have
+abbrev pub acts_wrongly : Draft → ℕ → RowForm → Bool
+acts_wrongly d n (form.Ask request who action) = ((kind_is kind.Idle d n || kind_is kind.Shared d n) && not (is_reply action))
+    || (is (request_of d Read) request && not (reads_by d n action)) || (is (request_of d Write) request && not (writes_by d n who action))
+acts_wrongly d n (form.Evict who left) = false
+
+-- what row line n breaks
+abbrev pub row_breaks : Draft → ℕ → RowLine → Rule → Bool
+row_breaks d n r S9 = has_row_line (take n d.rows) r
+row_breaks d n r S15 = is_not_due d r
+row_breaks d n r S16 = acts_wrongly d r.dir r.form
+row_breaks d n r S17 = not (leads_rightly d r r.form)
+row_breaks d n r R = false

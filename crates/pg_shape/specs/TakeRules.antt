@@ -1,0 +1,58 @@
+-- The rules that a take line breaks.
+use Rattle.std.specs.Prelude.{ℕ, zero, suc, ◌≡◌, Bool, true, false, not, ◌==◌, ◌&&◌, ◌||◌, nat_lt, nat_le, List, [], ◌∷◌, length, slice_get, take, Option, Some, None, is_none, is_some, position, find, IsTrue, ◌⊎◌}
+use Rattle.std.specs.List.{list_any, list_all, filter}
+use Rattle.std.specs.Option.{option_map, option_map_or, option_and_then}
+use Rattle.pg_perm.specs.declared.draft.Draft.{Draft}
+use Rattle.pg_perm.specs.declared.draft.CacheLine.{CacheLine}
+use Rattle.pg_perm.specs.declared.draft.TakeLine.{TakeLine}
+use Rattle.pg_perm.specs.declared.kinds.FwdClass.TheVariants.{Inv, Share, Keep, Drop}
+use Rattle.pg_perm.specs.declared.draft.MsgClass.{MsgClass}
+use Rattle.pg_perm.specs.declared.draft.MsgClass.TheVariants.{Request, Forward, Reply}
+use Rattle.pg_perm.specs.declared.fault.Rule.{Rule}
+use Rattle.pg_perm.specs.declared.fault.Rule.TheVariants.{S1, S2, S3, S4, S5, S6, S7, S8, S9, S10, S11, S12, S13, S14, S15, S16, S17, S18, S19}
+use Rattle.pg_shape.specs.Terms.{is_out, is_shared, is_owner, is_none_perm, is_read_perm, is_write_perm, same_event, same_who, same_left, same_request, is_request_of, is_forward_of, is, is_other, is_write_owner, is_read_owner, cache_is, out, shared, request_of, forward_of, has_class, listed, lists_state, lists, core_row, take_row, is_case, dir_row, keep_of}
+use Rattle.pg_shape.specs.Due.{same_kind, kind_is, forward_in, is_to_owner, is_passed_to, is_due, due_cases, cases_at, same_reply, is_row_for, is_row_from, is_load_reply, is_store_reply}
+
+-- a take line above it is for the same state and forward
+abbrev pub has_take_line : List TakeLine → TakeLine → Bool
+has_take_line above t = list_any (λ x. (x.state == t.state) && (x.forward == t.forward)) above
+
+-- a copy is given up without data
+abbrev pub invalidates_wrongly : Draft → TakeLine → Bool
+invalidates_wrongly d t = is_some t.reply || is_other (out d) t.next
+
+-- the owner becomes a sharer and sends data
+abbrev pub shares_wrongly : Draft → TakeLine → Bool
+shares_wrongly d t = is_none t.reply || not (is (shared d) t.next)
+
+-- the owner stays one that may only read, is clean only if it was, and sends data
+abbrev pub keeps_wrongly : Draft → TakeLine → Bool
+keeps_wrongly d t = is_none t.reply || not (cache_is is_read_owner d t.next)
+    || (cache_is (λ c. c.clean) d t.next && not (cache_is (λ c. c.clean) d t.state))
+
+-- the owner gives its copy up and sends data
+abbrev pub drops_wrongly : Draft → TakeLine → Bool
+drops_wrongly d t = is_none t.reply || is_other (out d) t.next
+
+-- the line isn't what a forward of its class asks for
+abbrev pub answers_wrongly : Draft → TakeLine → Bool
+answers_wrongly d t = (has_class Inv d t.forward && invalidates_wrongly d t) || (has_class Share d t.forward && shares_wrongly d t)
+    || (has_class Keep d t.forward && keeps_wrongly d t) || (has_class Drop d t.forward && drops_wrongly d t)
+
+abbrev pub takes_wrongly : Draft → TakeLine → Bool
+takes_wrongly d t = not (is_due d t.state t.forward) || answers_wrongly d t
+
+-- a cache in this state may get the keep forward
+abbrev pub may_keep : Draft → ℕ → Bool
+may_keep d s = option_map_or (is_due d s) (forward_of d Keep) false
+
+-- the keep forward leads to a state that it then leads to another
+abbrev pub keeps_moving : Draft → TakeLine → Bool
+keeps_moving d t = has_class Keep d t.forward && may_keep d t.next && is_other (keep_of d t.next) t.next
+
+-- what take line n breaks
+abbrev pub take_breaks : Draft → ℕ → TakeLine → Rule → Bool
+take_breaks d n t S9 = has_take_line (take n d.takes) t
+take_breaks d n t S12 = takes_wrongly d t
+take_breaks d n t S14 = keeps_moving d t
+take_breaks d n t R = false

@@ -1,0 +1,143 @@
+ghost use Rattle.std.specs.Prelude.{◌≡◌, ◌≤◌, length};
+ghost use Rattle.std.specs.List.{list_any};
+ghost use Rattle.pg_shape.specs.Terms as term;
+ghost use Rattle.pg_shape.specs.CacheRules as cache;
+ghost use Rattle.pg_shape.specs.FirstFaults.{first_rule};
+
+use crate::due::{forward_in, is_to_owner};
+use crate::terms::{
+    core_row, forward_of, is, is_out, is_owner, is_shared, lists, lists_state, out, shared,
+    take_row,
+};
+use pg_perm::{CacheLine, Draft, Event, FwdClass, Perm, RowLine, Rule};
+
+/// The most cache states in which a cache is the owner.
+const OWNER_LIMIT: usize = 12;
+
+fn has_wrong_perm(line: &CacheLine) -> bool
+    ensures { result ≡ cache.has_wrong_perm line.now }
+{
+    (is_out(line.role) && line.perm != Perm::None)
+        || (is_shared(line.role) && line.perm != Perm::Read)
+        || (is_owner(line.role) && line.perm == Perm::None)
+}
+
+fn has_out(above: &[CacheLine]) -> bool
+    ensures { result ≡ cache.has_out above.now }
+{
+    above.iter().any(|line| is_out(line.role))
+}
+
+fn has_shared(above: &[CacheLine]) -> bool
+    ensures { result ≡ cache.has_shared above.now }
+{
+    above.iter().any(|line| is_shared(line.role))
+}
+
+fn owners(above: &[CacheLine]) -> usize
+    ensures { result ≡ cache.owners above.now }
+{
+    above.iter().filter(|line| is_owner(line.role)).count()
+}
+
+fn is_one_too_many(above: &[CacheLine], line: &CacheLine) -> bool
+    ensures { result ≡ cache.is_one_too_many above.now line.now }
+{
+    (is_out(line.role) && has_out(above))
+        || (is_shared(line.role) && has_shared(above))
+        || (is_owner(line.role) && owners(above) >= OWNER_LIMIT)
+}
+
+fn is_needlessly_clean(line: &CacheLine) -> bool
+    ensures { result ≡ cache.is_needlessly_clean line.now }
+{
+    line.clean && !is_owner(line.role)
+}
+
+fn is_listed(draft: &Draft, state: usize) -> bool
+    ensures { result ≡ cache.is_listed draft.now state }
+{
+    draft
+        .dirs
+        .as_slice()
+        .iter()
+        .any(|line| lists_state(line.beside.as_slice(), state))
+}
+
+fn is_unlisted(draft: &Draft, state: usize, line: &CacheLine) -> bool
+    ensures { result ≡ cache.is_unlisted draft.now state line.now }
+{
+    is_owner(line.role) && !is_listed(draft, state)
+}
+
+fn lacks_core_lines(draft: &Draft, state: usize) -> bool
+    ensures { result ≡ cache.lacks_core_lines draft.now state }
+{
+    core_row(draft, state, Event::Load).is_none()
+        || core_row(draft, state, Event::Store).is_none()
+        || (!is(out(draft), state) && core_row(draft, state, Event::Evict).is_none())
+}
+
+fn lacks_inv_line(draft: &Draft, state: usize) -> bool
+    ensures { result ≡ cache.lacks_inv_line draft.now state }
+{
+    match forward_of(draft, FwdClass::Inv) {
+        Some(inv) => is(shared(draft), state) && take_row(draft, state, inv).is_none(),
+        None => false,
+    }
+}
+
+fn lacks_answer(draft: &Draft, state: usize, row: &RowLine) -> bool
+    ensures { result ≡ cache.lacks_answer draft.now state row.now }
+{
+    match forward_in(row.form) {
+        Some(forward) => {
+            is_to_owner(draft, forward)
+                && take_row(draft, state, forward).is_none()
+                && lists(draft, usize::from(row.dir), state)
+        }
+        None => false,
+    }
+}
+
+fn lacks_answers(draft: &Draft, state: usize) -> bool
+    ensures { result ≡ list_any (cache.lacks_answer draft.now state) draft.now.rows }
+{
+    draft
+        .rows
+        .as_slice()
+        .iter()
+        .any(|row| lacks_answer(draft, state, row))
+}
+
+fn lacks_take_lines(draft: &Draft, state: usize, line: &CacheLine) -> bool
+    ensures { result ≡ cache.lacks_take_lines draft.now state line.now }
+{
+    lacks_inv_line(draft, state) || (is_owner(line.role) && lacks_answers(draft, state))
+}
+
+/// The first rule that the line of a cache state breaks.
+pub fn cache_rule(draft: &Draft, state: usize, line: &CacheLine) -> Option<Rule>
+    requires { state ≤ length draft.now.caches }
+    ensures { result ≡ first_rule (cache.cache_breaks draft.now state line.now) }
+{
+    if has_wrong_perm(line) {
+        return Some(Rule::S1);
+    }
+    if is_one_too_many(&draft.caches.as_slice()[..state], line) {
+        return Some(Rule::S2);
+    }
+    if is_needlessly_clean(line) {
+        return Some(Rule::S3);
+    }
+    if is_unlisted(draft, state, line) {
+        return Some(Rule::S4);
+    }
+    if lacks_core_lines(draft, state) {
+        return Some(Rule::S8);
+    }
+    if lacks_take_lines(draft, state, line) {
+        return Some(Rule::S13);
+    }
+    None
+}

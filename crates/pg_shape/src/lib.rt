@@ -1,0 +1,21 @@
+//! The shape of a protocol: the rules S1 to S19, the first fault, and the protocols that have none.
+//!
+//! docs/TEXT.md states the rules and why each is there.
+#![tactic(auto)]
+
+mod cache_rules;
+mod cases;
+mod core_rules;
+mod dir_rules;
+mod due;
+mod error;
+mod faults;
+mod message_rules;
+mod next_rules;
+mod row_rules;
+mod take_rules;
+mod terms;
+mod text_rules;
+
+pub use cases::DirCase;
+pub use error::ShapeError;

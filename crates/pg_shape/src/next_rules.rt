@@ -1,0 +1,326 @@
+ghost use Rattle.std.specs.Prelude.{◌≡◌};
+ghost use Rattle.std.specs.Option.{option_copied};
+ghost use Rattle.pg_shape.specs.NextRules as rule;
+
+use crate::due::kind_is;
+use crate::terms::{
+    core_row, has_class, is, is_owner_state, is_read_owner_state, keep_of, listed, lists, out,
+    request_of, shared, take_row,
+};
+use pg_perm::{
+    Action, CoreForm, CoreLine, DirKind, Draft, Event, FwdClass, Left, Pair, ReplyName, ReqClass, RowForm,
+    RowLine, Who,
+};
+
+/// The core row of who asks.
+fn requester_row<'a>(draft: &'a Draft, event: Event, who: Who) -> Option<&'a CoreLine>
+    ensures { option_copied result ≡ rule.requester_row draft.now event who }
+{
+    match who {
+        Who::Other => core_row(draft, out(draft)?, event),
+        Who::Sharer => core_row(draft, shared(draft)?, event),
+        Who::Owner => None,
+    }
+}
+
+fn pair_under(name: ReplyName, pairs: &[Pair]) -> Option<&Pair>
+    ensures { option_copied result ≡ rule.pair_under name pairs.now }
+{
+    pairs.iter().find(|pair| pair.reply == name)
+}
+
+fn final_under(name: ReplyName, form: &CoreForm) -> Option<usize>
+    ensures { result ≡ rule.final_under name form.now }
+{
+    let CoreForm::Ask { pairs, .. } = form else {
+        return None;
+    };
+    let pair = pair_under(name, pairs.as_slice())?;
+    Some(usize::from(pair.fin))
+}
+
+/// The final state of who asks, under a reply.
+fn final_of(draft: &Draft, event: Event, who: Who, reply: u8) -> Option<usize>
+    ensures { result ≡ rule.final_of draft.now event who reply }
+{
+    let row = requester_row(draft, event, who)?;
+    final_under(ReplyName::Reply(reply), &row.form)
+}
+
+/// The final state of who asks, where an owner in a state answers.
+fn final_by(draft: &Draft, event: Event, who: Who, forward: usize, state: usize) -> Option<usize>
+    ensures { result ≡ rule.final_by draft.now event who forward state }
+{
+    let take = take_row(draft, state, forward)?;
+    final_of(draft, event, who, take.reply?)
+}
+
+/// The final state of a store of an owner.
+fn upgrade_of(draft: &Draft, state: usize) -> Option<usize>
+    ensures { result ≡ rule.upgrade_of draft.now state }
+{
+    let row = core_row(draft, state, Event::Store)?;
+    final_under(ReplyName::AckCount, &row.form)
+}
+
+fn lists_owner(draft: &Draft, dir: usize, state: usize) -> bool
+    ensures { result ≡ rule.lists_owner draft.now dir state }
+{
+    lists(draft, dir, state) && is_owner_state(draft, state)
+}
+
+fn is_read_end(draft: &Draft, row: &RowLine, state: usize) -> bool
+    ensures { result ≡ rule.is_read_end draft.now row.now state }
+{
+    let next = usize::from(row.next);
+    (kind_is(DirKind::Shared, draft, next) && is(shared(draft), state))
+        || (kind_is(DirKind::Idle, draft, usize::from(row.dir))
+            && kind_is(DirKind::Owned, draft, next)
+            && lists_owner(draft, next, state))
+}
+
+fn reads_memory(draft: &Draft, row: &RowLine, who: Who, reply: u8) -> bool
+    ensures { result ≡ rule.reads_memory draft.now row.now who reply }
+{
+    match final_of(draft, Event::Load, who, reply) {
+        Some(state) => is_read_end(draft, row, state),
+        None => true,
+    }
+}
+
+fn is_shared_by(draft: &Draft, who: Who, forward: usize, owner: usize) -> bool
+    ensures { result ≡ rule.is_shared_by draft.now who forward owner }
+{
+    match final_by(draft, Event::Load, who, forward, owner) {
+        Some(state) => is(shared(draft), state),
+        None => true,
+    }
+}
+
+fn are_shared(draft: &Draft, who: Who, forward: usize, owners: &[u8]) -> bool
+    ensures { result ≡ rule.are_shared draft.now who forward owners.now }
+{
+    owners
+        .iter()
+        .all(|owner| is_shared_by(draft, who, forward, usize::from(*owner)))
+}
+
+fn is_kept(draft: &Draft, next: usize, owner: usize) -> bool
+    ensures { result ≡ rule.is_kept draft.now next owner }
+{
+    match keep_of(draft, owner) {
+        Some(state) => lists(draft, next, state),
+        None => true,
+    }
+}
+
+fn are_kept(draft: &Draft, next: usize, owners: &[u8]) -> bool
+    ensures { result ≡ rule.are_kept draft.now next owners.now }
+{
+    owners
+        .iter()
+        .all(|owner| is_kept(draft, next, usize::from(*owner)))
+}
+
+fn is_owner_by(draft: &Draft, who: Who, next: usize, forward: usize, owner: usize) -> bool
+    ensures { result ≡ rule.is_owner_by draft.now who next forward owner }
+{
+    match final_by(draft, Event::Load, who, forward, owner) {
+        Some(state) => lists_owner(draft, next, state),
+        None => true,
+    }
+}
+
+fn are_owners(draft: &Draft, who: Who, next: usize, forward: usize, owners: &[u8]) -> bool
+    ensures { result ≡ rule.are_owners draft.now who next forward owners.now }
+{
+    owners
+        .iter()
+        .all(|owner| is_owner_by(draft, who, next, forward, usize::from(*owner)))
+}
+
+fn is_listed_by(draft: &Draft, who: Who, next: usize, forward: usize, owner: usize) -> bool
+    ensures { result ≡ rule.is_listed_by draft.now who next forward owner }
+{
+    match final_by(draft, Event::Store, who, forward, owner) {
+        Some(state) => lists(draft, next, state),
+        None => true,
+    }
+}
+
+fn are_listed(draft: &Draft, who: Who, next: usize, forward: usize, owners: &[u8]) -> bool
+    ensures { result ≡ rule.are_listed draft.now who next forward owners.now }
+{
+    owners
+        .iter()
+        .all(|owner| is_listed_by(draft, who, next, forward, usize::from(*owner)))
+}
+
+fn is_upgrade_listed(draft: &Draft, next: usize, owner: usize) -> bool
+    ensures { result ≡ rule.is_upgrade_listed draft.now next owner }
+{
+    match upgrade_of(draft, owner) {
+        Some(state) => !is_read_owner_state(draft, owner) || lists(draft, next, state),
+        None => true,
+    }
+}
+
+fn are_upgraded(draft: &Draft, next: usize, owners: &[u8]) -> bool
+    ensures { result ≡ rule.are_upgraded draft.now next owners.now }
+{
+    owners
+        .iter()
+        .all(|owner| is_upgrade_listed(draft, next, usize::from(*owner)))
+}
+
+/// Whether a directory state lists all these states.
+fn lists_each(draft: &Draft, next: usize, states: &[u8]) -> bool
+    ensures { result ≡ rule.lists_each draft.now next states.now }
+{
+    states
+        .iter()
+        .all(|state| lists(draft, next, usize::from(*state)))
+}
+
+fn leads_to_shared(draft: &Draft, row: &RowLine, who: Who, forward: usize) -> bool
+    ensures { result ≡ rule.leads_to_shared draft.now row.now who forward }
+{
+    kind_is(DirKind::Shared, draft, usize::from(row.next))
+        && are_shared(draft, who, forward, listed(draft, usize::from(row.dir)))
+}
+
+fn leads_to_mixed(draft: &Draft, row: &RowLine, who: Who, forward: usize) -> bool
+    ensures { result ≡ rule.leads_to_mixed draft.now row.now who forward }
+{
+    let owners = listed(draft, usize::from(row.dir));
+    let next = usize::from(row.next);
+    kind_is(DirKind::Mixed, draft, next)
+        && are_kept(draft, next, owners)
+        && are_shared(draft, who, forward, owners)
+}
+
+fn leads_to_owned(draft: &Draft, row: &RowLine, who: Who, forward: usize) -> bool
+    ensures { result ≡ rule.leads_to_owned draft.now row.now who forward }
+{
+    let next = usize::from(row.next);
+    kind_is(DirKind::Owned, draft, next)
+        && are_owners(
+            draft,
+            who,
+            next,
+            forward,
+            listed(draft, usize::from(row.dir)),
+        )
+}
+
+fn reads_owner(draft: &Draft, row: &RowLine, who: Who, forward: usize) -> bool
+    ensures { result ≡ rule.reads_owner draft.now row.now who forward }
+{
+    (!has_class(FwdClass::Share, draft, forward) || leads_to_shared(draft, row, who, forward))
+        && (!has_class(FwdClass::Keep, draft, forward) || leads_to_mixed(draft, row, who, forward))
+        && (!has_class(FwdClass::Drop, draft, forward) || leads_to_owned(draft, row, who, forward))
+}
+
+fn reads_rightly(draft: &Draft, row: &RowLine, who: Who, action: Action) -> bool
+    ensures { result ≡ rule.reads_rightly draft.now row.now who action }
+{
+    match action {
+        Action::Reply(reply) => reads_memory(draft, row, who, reply),
+        Action::Forward(forward) => reads_owner(draft, row, who, usize::from(forward)),
+        Action::Count => true,
+    }
+}
+
+fn is_final_listed(draft: &Draft, who: Who, next: usize, reply: u8) -> bool
+    ensures { result ≡ rule.is_final_listed draft.now who next reply }
+{
+    match final_of(draft, Event::Store, who, reply) {
+        Some(state) => lists(draft, next, state),
+        None => true,
+    }
+}
+
+fn lists_writer(draft: &Draft, row: &RowLine, who: Who, action: Action) -> bool
+    ensures { result ≡ rule.lists_writer draft.now row.now who action }
+{
+    let next = usize::from(row.next);
+    match action {
+        Action::Reply(reply) => is_final_listed(draft, who, next, reply),
+        Action::Forward(forward) => are_listed(
+            draft,
+            who,
+            next,
+            usize::from(forward),
+            listed(draft, usize::from(row.dir)),
+        ),
+        Action::Count => true,
+    }
+}
+
+fn writes_rightly(draft: &Draft, row: &RowLine, who: Who, action: Action) -> bool
+    ensures { result ≡ rule.writes_rightly draft.now row.now who action }
+{
+    let next = usize::from(row.next);
+    let is_owned = kind_is(DirKind::Owned, draft, next);
+    match who {
+        Who::Other | Who::Sharer => is_owned && lists_writer(draft, row, who, action),
+        Who::Owner => is_owned && are_upgraded(draft, next, listed(draft, usize::from(row.dir))),
+    }
+}
+
+fn keeps_owner(draft: &Draft, row: &RowLine, left: Left) -> bool
+    ensures { result ≡ rule.keeps_owner draft.now row.now left }
+{
+    let next = usize::from(row.next);
+    let has_owner = match left {
+        Left::Last => {
+            kind_is(DirKind::Mixed, draft, next) || kind_is(DirKind::Owned, draft, next)
+        }
+        Left::More => kind_is(DirKind::Mixed, draft, next),
+    };
+    has_owner && lists_each(draft, next, listed(draft, usize::from(row.dir)))
+}
+
+fn leaves_rightly(draft: &Draft, row: &RowLine, left: Left) -> bool
+    ensures { result ≡ rule.leaves_rightly draft.now row.now left }
+{
+    let kind = match left {
+        Left::Last => DirKind::Idle,
+        Left::More => DirKind::Shared,
+    };
+    kind_is(kind, draft, usize::from(row.next))
+}
+
+fn evicts_rightly(draft: &Draft, row: &RowLine, who: Who, left: Left) -> bool
+    ensures { result ≡ rule.evicts_rightly draft.now row.now who left }
+{
+    let dir = usize::from(row.dir);
+    match who {
+        Who::Other => true,
+        Who::Sharer => {
+            (!kind_is(DirKind::Shared, draft, dir) || leaves_rightly(draft, row, left))
+                && (!kind_is(DirKind::Mixed, draft, dir) || keeps_owner(draft, row, left))
+        }
+        Who::Owner => leaves_rightly(draft, row, left),
+    }
+}
+
+/// Whether a row line of this form leads to a directory state that it may.
+pub fn leads_rightly(draft: &Draft, row: &RowLine, form: RowForm) -> bool
+    ensures { result ≡ rule.leads_rightly draft.now row.now form }
+{
+    match form {
+        RowForm::Ask {
+            request,
+            who,
+            action,
+        } => {
+            let request = usize::from(request);
+            (!is(request_of(draft, ReqClass::Read), request)
+                || reads_rightly(draft, row, who, action))
+                && (!is(request_of(draft, ReqClass::Write), request)
+                    || writes_rightly(draft, row, who, action))
+        }
+        RowForm::Evict { who, left } => evicts_rightly(draft, row, who, left),
+    }
+}

@@ -1,0 +1,118 @@
+ghost use Rattle.std.specs.Prelude.{◌≡◌, ◌≤◌, length};
+ghost use Rattle.pg_shape.specs.RowRules as rule;
+ghost use Rattle.pg_shape.specs.FirstFaults.{first_rule};
+
+use crate::due::{is_form_due, kind_is};
+use crate::next_rules::leads_rightly;
+use crate::terms::{has_class, is, request_of};
+use pg_perm::{Action, DirKind, Draft, FwdClass, ReqClass, RowForm, RowLine, Rule, Who};
+
+fn same_words(a: RowForm, b: RowForm) -> bool
+    ensures { result ≡ rule.same_words a b }
+{
+    match (a, b) {
+        (RowForm::Ask { request, who, .. }, RowForm::Ask { request: other, who: sender, .. }) => {
+            request == other && who == sender
+        }
+        (RowForm::Evict { who, left }, RowForm::Evict { who: sender, left: others }) => {
+            who == sender && left == others
+        }
+        _ => false,
+    }
+}
+
+fn has_row_line(above: &[RowLine], line: &RowLine) -> bool
+    ensures { result ≡ rule.has_row_line above.now line.now }
+{
+    above
+        .iter()
+        .any(|other| other.dir == line.dir && same_words(other.form, line.form))
+}
+
+fn is_not_due(draft: &Draft, line: &RowLine) -> bool
+    ensures { result ≡ rule.is_not_due draft.now line.now }
+{
+    !is_form_due(draft, usize::from(line.dir), line.form)
+}
+
+fn is_reply(action: Action) -> bool
+    ensures { result ≡ rule.is_reply action }
+{
+    match action {
+        Action::Reply(_) => true,
+        _ => false,
+    }
+}
+
+/// Whether the action passes the request on with a forward of a class.
+fn forwards(class: FwdClass, draft: &Draft, action: Action) -> bool
+    ensures { result ≡ rule.forwards class draft.now action }
+{
+    match action {
+        Action::Forward(forward) => has_class(class, draft, usize::from(forward)),
+        _ => false,
+    }
+}
+
+fn reads_by(draft: &Draft, dir: usize, action: Action) -> bool
+    ensures { result ≡ rule.reads_by draft.now dir action }
+{
+    (!kind_is(DirKind::Owned, draft, dir)
+        || forwards(FwdClass::Share, draft, action)
+        || forwards(FwdClass::Keep, draft, action)
+        || forwards(FwdClass::Drop, draft, action))
+        && (!kind_is(DirKind::Mixed, draft, dir)
+            || forwards(FwdClass::Share, draft, action)
+            || forwards(FwdClass::Keep, draft, action))
+}
+
+fn writes_by(draft: &Draft, dir: usize, who: Who, action: Action) -> bool
+    ensures { result ≡ rule.writes_by draft.now dir who action }
+{
+    match who {
+        Who::Other | Who::Sharer => {
+            !(kind_is(DirKind::Owned, draft, dir) || kind_is(DirKind::Mixed, draft, dir))
+                || forwards(FwdClass::Drop, draft, action)
+        }
+        Who::Owner => action == Action::Count,
+    }
+}
+
+fn acts_wrongly(draft: &Draft, dir: usize, form: RowForm) -> bool
+    ensures { result ≡ rule.acts_wrongly draft.now dir form }
+{
+    let RowForm::Ask {
+        request,
+        who,
+        action,
+    } = form
+    else {
+        return false;
+    };
+    let request = usize::from(request);
+    ((kind_is(DirKind::Idle, draft, dir) || kind_is(DirKind::Shared, draft, dir))
+        && !is_reply(action))
+        || (is(request_of(draft, ReqClass::Read), request) && !reads_by(draft, dir, action))
+        || (is(request_of(draft, ReqClass::Write), request)
+            && !writes_by(draft, dir, who, action))
+}
+
+/// The first rule that a row line breaks.
+pub fn row_rule(draft: &Draft, number: usize, line: &RowLine) -> Option<Rule>
+    requires { number ≤ length draft.now.rows }
+    ensures { result ≡ first_rule (rule.row_breaks draft.now number line.now) }
+{
+    if has_row_line(&draft.rows.as_slice()[..number], line) {
+        return Some(Rule::S9);
+    }
+    if is_not_due(draft, line) {
+        return Some(Rule::S15);
+    }
+    if acts_wrongly(draft, usize::from(line.dir), line.form) {
+        return Some(Rule::S16);
+    }
+    if !leads_rightly(draft, line, line.form) {
+        return Some(Rule::S17);
+    }
+    None
+}
