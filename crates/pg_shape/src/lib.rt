@@ -10,6 +10,7 @@ mod dir_rules;
 mod due;
 mod error;
 mod faults;
+mod laws;
 mod message_rules;
 mod next_rules;
 mod row_rules;
@@ -19,3 +20,4 @@ mod text_rules;
 
 pub use cases::DirCase;
 pub use error::ShapeError;
+pub use laws::first_fault_is_exact;

@@ -1,0 +1,4 @@
+pub mod Rising
+pub mod FirstRules
+pub mod FirstFound
+pub mod Exact
