@@ -1,10 +1,9 @@
 -- What the first fault is, against the rules that lines break.
-use Rattle.std.proofs.Common.{◌≡◌, ℕ, ◌<◌, ◌⊎◌, Bool, true, List, [], ◌∷◌, ◌++◌, map, Option, Some, None, Result, Ok, Err, refl, sym, subst, ap, ◌∙◌, arith, inl, inr, append_assoc}
-use Rattle.std.specs.Prelude.{IfOk, ◌↔◌}
+use Rattle.std.proofs.Common.{◌≡◌, ℕ, Bool, true, List, [], ◌∷◌, ◌++◌, map, Option, Some, None, refl, subst, ap, ◌∙◌, inl, inr, append_assoc}
 use Rattle.pg_perm.specs.declared.draft.Draft.{Draft}
 use Rattle.pg_perm.specs.declared.fault.Fault.{Fault}
 use Rattle.pg_perm.specs.declared.fault.Rule.{Rule}
-use Rattle.pg_perm.specs.Drafts.{is_rising, line_numbers, IsWellFormed}
+use Rattle.pg_perm.specs.Drafts.{is_rising, IsWellFormed}
 use Rattle.pg_perm.proofs.Ranks.{same_fault}
 use Rattle.pg_shape.specs.TextRules.{text_breaks}
 use Rattle.pg_shape.specs.CacheRules.{cache_breaks}
@@ -15,7 +14,7 @@ use Rattle.pg_shape.specs.TakeRules.{take_breaks}
 use Rattle.pg_shape.specs.RowRules.{row_breaks}
 use Rattle.pg_shape.specs.ShapeFaults.{IsBrokenIn, BreaksShape, HasShape, IsShapeFault}
 use Rattle.pg_shape.specs.FirstFaults.{first_rule, fault_or, first_in, or_later, shape_fault}
-use Rattle.pg_shape.proofs.Rising.{In, in_front, in_behind, rising_head, rising_tail, rising_front, rising_behind, rising_apart}
+use Rattle.pg_shape.proofs.Rising.{In, in_front, in_behind, rising_tail, rising_front, rising_behind, rising_apart}
 use Rattle.pg_shape.proofs.FirstRules.{IsOfShape}
 use Rattle.pg_shape.proofs.FirstFound.{text_of_shape, cache_of_shape, dir_of_shape, message_of_shape, core_of_shape, take_of_shape, row_of_shape, IsFirstOf, AreApart, Either, BrokenAt, first_of_two, first_at, first_in_kind, in_kind}
 

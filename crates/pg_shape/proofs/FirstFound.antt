@@ -1,5 +1,5 @@
 -- The first fault among lines.
-use Rattle.std.proofs.Common.{◌≡◌, ℕ, zero, suc, ◌+◌, ◌<◌, ◌⊎◌, Bool, true, false, List, [], ◌∷◌, ◌++◌, map, Option, Some, None, refl, sym, subst, ap, ◌∙◌, arith, inl, inr}
+use Rattle.std.proofs.Common.{◌≡◌, ℕ, zero, suc, ◌+◌, ◌<◌, ◌⊎◌, Bool, true, List, [], ◌∷◌, map, Option, Some, None, refl, sym, subst, arith, inl, inr}
 use Rattle.std.specs.Prelude.{slice_get, IsTrue}
 use Rattle.std.proofs.lemmas.Option.{same_Some}
 use Rattle.pg_perm.specs.declared.draft.Draft.{Draft}
@@ -12,7 +12,7 @@ use Rattle.pg_perm.specs.declared.draft.RowLine.{RowLine}
 use Rattle.pg_perm.specs.declared.fault.Fault.{Fault}
 use Rattle.pg_perm.specs.declared.fault.Rule.{Rule}
 use Rattle.pg_perm.specs.declared.fault.Rule.TheVariants.{F1, F2, F3, F4, F5, F6}
-use Rattle.pg_perm.specs.Rules.{rule_rank, IsNoLater}
+use Rattle.pg_perm.specs.Rules.{IsNoLater}
 use Rattle.pg_perm.specs.Drafts.{is_rising}
 use Rattle.pg_shape.specs.TextRules.{text_breaks}
 use Rattle.pg_shape.specs.CacheRules.{cache_breaks}

@@ -2,3 +2,5 @@ pub mod Rising
 pub mod FirstRules
 pub mod FirstFound
 pub mod Exact
+pub mod Searches
+pub mod Shaped

@@ -1,18 +1,16 @@
 -- The rules that a cache line breaks.
-use Rattle.std.specs.Prelude.{ℕ, zero, suc, ◌≡◌, Bool, true, false, not, ◌==◌, ◌&&◌, ◌||◌, nat_lt, nat_le, List, [], ◌∷◌, length, slice_get, take, Option, Some, None, is_none, is_some, position, find, IsTrue, ◌⊎◌}
-use Rattle.std.specs.List.{list_any, list_all, filter}
-use Rattle.std.specs.Option.{option_map, option_map_or, option_and_then}
+use Rattle.std.specs.Prelude.{ℕ, Bool, false, not, ◌&&◌, ◌||◌, nat_le, List, length, take, is_none}
+use Rattle.std.specs.List.{list_any, filter}
+use Rattle.std.specs.Option.{option_map_or}
 use Rattle.pg_perm.specs.declared.draft.Draft.{Draft}
 use Rattle.pg_perm.specs.declared.draft.CacheLine.{CacheLine}
-use Rattle.pg_perm.specs.declared.draft.DirLine.{DirLine}
 use Rattle.pg_perm.specs.declared.draft.RowLine.{RowLine}
-use Rattle.pg_perm.specs.declared.kinds.FwdClass.TheVariants.{Inv, Share, Keep, Drop}
-use Rattle.pg_perm.specs.declared.kinds.Event.{Event}
+use Rattle.pg_perm.specs.declared.kinds.FwdClass.TheVariants.{Inv}
 use Rattle.pg_perm.specs.declared.kinds.Event.TheVariants.{Load, Store, Evict}
 use Rattle.pg_perm.specs.declared.fault.Rule.{Rule}
-use Rattle.pg_perm.specs.declared.fault.Rule.TheVariants.{S1, S2, S3, S4, S5, S6, S7, S8, S9, S10, S11, S12, S13, S14, S15, S16, S17, S18, S19}
-use Rattle.pg_shape.specs.Terms.{is_out, is_shared, is_owner, is_none_perm, is_read_perm, is_write_perm, same_event, same_who, same_left, same_request, is_request_of, is_forward_of, is, is_other, is_write_owner, is_read_owner, cache_is, out, shared, request_of, forward_of, has_class, listed, lists_state, lists, core_row, take_row, is_case, dir_row, keep_of}
-use Rattle.pg_shape.specs.Due.{same_kind, kind_is, forward_in, is_to_owner, is_passed_to, is_due, due_cases, cases_at, same_reply, is_row_for, is_row_from, is_load_reply, is_store_reply}
+use Rattle.pg_perm.specs.declared.fault.Rule.TheVariants.{S1, S2, S3, S4, S8, S13}
+use Rattle.pg_shape.specs.Terms.{is_out, is_shared, is_owner, is_none_perm, is_read_perm, is, out, shared, forward_of, lists_state, lists, core_row, take_row}
+use Rattle.pg_shape.specs.Due.{forward_in, is_to_owner}
 
 -- out without none, shared without read, or an owner with none
 abbrev pub has_wrong_perm : CacheLine → Bool

@@ -1,13 +1,12 @@
 -- The rules that a core line breaks.
-use Rattle.std.specs.Prelude.{ℕ, zero, suc, ◌≡◌, Bool, true, false, not, ◌==◌, ◌&&◌, ◌||◌, nat_lt, nat_le, List, [], ◌∷◌, length, slice_get, take, Option, Some, None, is_none, is_some, position, find, IsTrue, ◌⊎◌}
-use Rattle.std.specs.List.{list_any, list_all, filter}
-use Rattle.std.specs.Option.{option_map, option_map_or, option_and_then}
+use Rattle.std.specs.Prelude.{ℕ, zero, suc, Bool, true, false, not, ◌==◌, ◌&&◌, ◌||◌, List, [], ◌∷◌, length, slice_get, take, Option, Some, None, is_some}
+use Rattle.std.specs.List.{list_any}
+use Rattle.std.specs.Option.{option_map_or}
 use Rattle.pg_perm.specs.declared.kinds.Role.{Role}
 use Rattle.pg_perm.specs.declared.kinds.Role.TheVariants as role
 use Rattle.pg_perm.specs.declared.kinds.Event.{Event}
 use Rattle.pg_perm.specs.declared.kinds.Event.TheVariants.{Load, Store, Evict}
-use Rattle.pg_perm.specs.declared.kinds.Who.{Who}
-use Rattle.pg_perm.specs.declared.kinds.Who.TheVariants.{Other, Sharer, Owner}
+use Rattle.pg_perm.specs.declared.kinds.Who.TheVariants.{Other, Sharer}
 use Rattle.pg_perm.specs.declared.kinds.ReqClass.{ReqClass}
 use Rattle.pg_perm.specs.declared.kinds.ReqClass.TheVariants.{Read, Write, Clean, Dirty}
 use Rattle.pg_perm.specs.declared.draft.Draft.{Draft}
@@ -19,11 +18,10 @@ use Rattle.pg_perm.specs.declared.draft.CoreForm.TheVariants.{Hit, Ask, Leave}
 use Rattle.pg_perm.specs.declared.draft.Pair.{Pair}
 use Rattle.pg_perm.specs.declared.draft.ReplyName.{ReplyName}
 use Rattle.pg_perm.specs.declared.draft.ReplyName.TheVariants as reply
-use Rattle.pg_perm.specs.declared.draft.TakeLine.{TakeLine}
 use Rattle.pg_perm.specs.declared.fault.Rule.{Rule}
-use Rattle.pg_perm.specs.declared.fault.Rule.TheVariants.{S1, S2, S3, S4, S5, S6, S7, S8, S9, S10, S11, S12, S13, S14, S15, S16, S17, S18, S19}
-use Rattle.pg_shape.specs.Terms.{is_out, is_shared, is_owner, is_none_perm, is_read_perm, is_write_perm, same_event, same_who, same_left, same_request, is_request_of, is_forward_of, is, is_other, is_write_owner, is_read_owner, cache_is, out, shared, request_of, forward_of, has_class, listed, lists_state, lists, core_row, take_row, is_case, dir_row, keep_of}
-use Rattle.pg_shape.specs.Due.{same_kind, kind_is, forward_in, is_to_owner, is_passed_to, is_due, due_cases, cases_at, same_reply, is_row_for, is_row_from, is_load_reply, is_store_reply}
+use Rattle.pg_perm.specs.declared.fault.Rule.TheVariants.{S7, S9, S10, S11, S19}
+use Rattle.pg_shape.specs.Terms.{is_out, is_owner, is_none_perm, is_write_perm, same_event, is_request_of, is, is_other, is_write_owner, cache_is, shared, request_of, lists_state, core_row}
+use Rattle.pg_shape.specs.Due.{same_reply, is_load_reply, is_store_reply}
 
 -- a permission allows an event: any but none allows a load, and write a store
 abbrev pub allows : Event → CacheLine → Bool

@@ -1,24 +1,16 @@
 -- What is due at cache states and at directory states, and which replies are asked for.
-use Rattle.std.specs.Prelude.{ℕ, zero, suc, ◌≡◌, Bool, true, false, not, ◌==◌, ◌&&◌, ◌||◌, nat_lt, nat_le, List, [], ◌∷◌, length, slice_get, take, Option, Some, None, is_none, is_some, position, find, IsTrue, ◌⊎◌}
-use Rattle.std.specs.List.{list_any, list_all, filter}
-use Rattle.std.specs.Option.{option_map, option_map_or, option_and_then}
-use Rattle.pg_perm.specs.declared.kinds.Role.{Role}
-use Rattle.pg_perm.specs.declared.kinds.Role.TheVariants as role
+use Rattle.std.specs.Prelude.{ℕ, Bool, true, false, ◌==◌, ◌&&◌, ◌||◌, List, [], ◌∷◌, slice_get, Option, Some, None}
+use Rattle.std.specs.List.{list_any}
+use Rattle.std.specs.Option.{option_map_or}
 use Rattle.pg_perm.specs.declared.kinds.DirKind.{DirKind}
 use Rattle.pg_perm.specs.declared.kinds.DirKind.TheVariants as kind
-use Rattle.pg_perm.specs.declared.kinds.Event.{Event}
-use Rattle.pg_perm.specs.declared.kinds.Event.TheVariants.{Load, Store, Evict}
 use Rattle.pg_perm.specs.declared.kinds.Who.{Who}
 use Rattle.pg_perm.specs.declared.kinds.Who.TheVariants.{Other, Sharer, Owner}
-use Rattle.pg_perm.specs.declared.kinds.Left.{Left}
 use Rattle.pg_perm.specs.declared.kinds.Left.TheVariants.{Last, More}
 use Rattle.pg_perm.specs.declared.kinds.ReqClass.{ReqClass}
-use Rattle.pg_perm.specs.declared.kinds.ReqClass.TheVariants.{Read, Write, Clean, Dirty}
+use Rattle.pg_perm.specs.declared.kinds.ReqClass.TheVariants.{Read, Write}
 use Rattle.pg_perm.specs.declared.kinds.FwdClass.TheVariants.{Inv, Share, Keep, Drop}
-use Rattle.pg_perm.specs.declared.draft.MsgClass.{MsgClass}
-use Rattle.pg_perm.specs.declared.draft.MsgClass.TheVariants.{Request, Forward, Reply}
 use Rattle.pg_perm.specs.declared.draft.Draft.{Draft}
-use Rattle.pg_perm.specs.declared.draft.DirLine.{DirLine}
 use Rattle.pg_perm.specs.declared.draft.TakeLine.{TakeLine}
 use Rattle.pg_perm.specs.declared.draft.RowLine.{RowLine}
 use Rattle.pg_perm.specs.declared.draft.RowForm.{RowForm}
@@ -29,7 +21,7 @@ use Rattle.pg_perm.specs.declared.draft.ReplyName.{ReplyName}
 use Rattle.pg_perm.specs.declared.draft.ReplyName.TheVariants as reply
 use Rattle.pg_shape.specs.declared.cases.DirCase.{DirCase}
 use Rattle.pg_shape.specs.declared.cases.DirCase.TheVariants as case
-use Rattle.pg_shape.specs.Terms.{is_out, is_shared, is_owner, is_none_perm, is_read_perm, is_write_perm, same_event, same_who, same_left, same_request, is_request_of, is_forward_of, is, is_other, is_write_owner, is_read_owner, cache_is, out, shared, request_of, forward_of, has_class, listed, lists_state, lists, core_row, take_row, is_case, dir_row, keep_of}
+use Rattle.pg_shape.specs.Terms.{is_owner, same_who, same_left, same_request, is, is_read_owner, cache_is, shared, request_of, forward_of, has_class, lists}
 
 abbrev pub same_kind : DirKind → DirKind → Bool
 same_kind kind.Idle kind.Idle = true

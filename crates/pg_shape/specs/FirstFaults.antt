@@ -1,14 +1,6 @@
 -- The first fault of the shape, found line by line.
-use Rattle.std.specs.Prelude.{ℕ, zero, suc, ◌≡◌, Bool, true, false, not, ◌==◌, ◌&&◌, ◌||◌, nat_lt, nat_le, List, [], ◌∷◌, length, slice_get, take, Option, Some, None, is_none, is_some, position, find, IsTrue, ◌⊎◌}
-use Rattle.std.specs.List.{list_any, list_all, filter}
-use Rattle.std.specs.Option.{option_map, option_map_or, option_and_then}
+use Rattle.std.specs.Prelude.{ℕ, suc, Bool, List, [], ◌∷◌, Option, Some, None, find}
 use Rattle.pg_perm.specs.declared.draft.Draft.{Draft}
-use Rattle.pg_perm.specs.declared.draft.CacheLine.{CacheLine}
-use Rattle.pg_perm.specs.declared.draft.DirLine.{DirLine}
-use Rattle.pg_perm.specs.declared.draft.MsgLine.{MsgLine}
-use Rattle.pg_perm.specs.declared.draft.CoreLine.{CoreLine}
-use Rattle.pg_perm.specs.declared.draft.TakeLine.{TakeLine}
-use Rattle.pg_perm.specs.declared.draft.RowLine.{RowLine}
 use Rattle.pg_perm.specs.declared.fault.Fault.{Fault}
 use Rattle.pg_perm.specs.declared.fault.Rule.{Rule}
 use Rattle.pg_perm.specs.declared.fault.Rule.TheVariants.{S1, S2, S3, S4, S5, S6, S7, S8, S9, S10, S11, S12, S13, S14, S15, S16, S17, S18, S19}

@@ -1,34 +1,30 @@
 -- The directory state that each row line leads to.
-use Rattle.std.specs.Prelude.{ℕ, zero, suc, ◌≡◌, Bool, true, false, not, ◌==◌, ◌&&◌, ◌||◌, nat_lt, nat_le, List, [], ◌∷◌, length, slice_get, take, Option, Some, None, is_none, is_some, position, find, IsTrue, ◌⊎◌}
-use Rattle.std.specs.List.{list_any, list_all, filter}
+use Rattle.std.specs.Prelude.{ℕ, Bool, true, not, ◌&&◌, ◌||◌, List, Option, None, find}
+use Rattle.std.specs.List.{list_all}
 use Rattle.std.specs.Option.{option_map, option_map_or, option_and_then}
-use Rattle.pg_perm.specs.declared.kinds.DirKind.{DirKind}
 use Rattle.pg_perm.specs.declared.kinds.DirKind.TheVariants as kind
 use Rattle.pg_perm.specs.declared.kinds.Event.{Event}
-use Rattle.pg_perm.specs.declared.kinds.Event.TheVariants.{Load, Store, Evict}
+use Rattle.pg_perm.specs.declared.kinds.Event.TheVariants.{Load, Store}
 use Rattle.pg_perm.specs.declared.kinds.Who.{Who}
 use Rattle.pg_perm.specs.declared.kinds.Who.TheVariants.{Other, Sharer, Owner}
 use Rattle.pg_perm.specs.declared.kinds.Left.{Left}
 use Rattle.pg_perm.specs.declared.kinds.Left.TheVariants.{Last, More}
-use Rattle.pg_perm.specs.declared.kinds.ReqClass.{ReqClass}
-use Rattle.pg_perm.specs.declared.kinds.ReqClass.TheVariants.{Read, Write, Clean, Dirty}
-use Rattle.pg_perm.specs.declared.kinds.FwdClass.TheVariants.{Inv, Share, Keep, Drop}
+use Rattle.pg_perm.specs.declared.kinds.ReqClass.TheVariants.{Read, Write}
+use Rattle.pg_perm.specs.declared.kinds.FwdClass.TheVariants.{Share, Keep, Drop}
 use Rattle.pg_perm.specs.declared.draft.Draft.{Draft}
-use Rattle.pg_perm.specs.declared.draft.CacheLine.{CacheLine}
 use Rattle.pg_perm.specs.declared.draft.CoreLine.{CoreLine}
 use Rattle.pg_perm.specs.declared.draft.CoreForm.{CoreForm}
 use Rattle.pg_perm.specs.declared.draft.CoreForm.TheVariants.{Hit, Ask, Leave}
 use Rattle.pg_perm.specs.declared.draft.Pair.{Pair}
 use Rattle.pg_perm.specs.declared.draft.ReplyName.{ReplyName}
 use Rattle.pg_perm.specs.declared.draft.ReplyName.TheVariants as reply
-use Rattle.pg_perm.specs.declared.draft.TakeLine.{TakeLine}
 use Rattle.pg_perm.specs.declared.draft.RowLine.{RowLine}
 use Rattle.pg_perm.specs.declared.draft.RowForm.{RowForm}
 use Rattle.pg_perm.specs.declared.draft.RowForm.TheVariants as form
 use Rattle.pg_perm.specs.declared.draft.Action.{Action}
 use Rattle.pg_perm.specs.declared.draft.Action.TheVariants as action
-use Rattle.pg_shape.specs.Terms.{is_out, is_shared, is_owner, is_none_perm, is_read_perm, is_write_perm, same_event, same_who, same_left, same_request, is_request_of, is_forward_of, is, is_other, is_write_owner, is_read_owner, cache_is, out, shared, request_of, forward_of, has_class, listed, lists_state, lists, core_row, take_row, is_case, dir_row, keep_of}
-use Rattle.pg_shape.specs.Due.{same_kind, kind_is, forward_in, is_to_owner, is_passed_to, is_due, due_cases, cases_at, same_reply, is_row_for, is_row_from, is_load_reply, is_store_reply}
+use Rattle.pg_shape.specs.Terms.{is_owner, is, is_read_owner, cache_is, out, shared, request_of, has_class, listed, lists, core_row, take_row, keep_of}
+use Rattle.pg_shape.specs.Due.{kind_is, same_reply}
 
 -- what isn't there passes
 abbrev pub passes : (ℕ → Bool) → Option ℕ → Bool

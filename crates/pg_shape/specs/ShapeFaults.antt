@@ -1,17 +1,10 @@
 -- The lines of a draft that break a rule of the shape, and the first.
-use Rattle.std.specs.Prelude.{ℕ, zero, suc, ◌≡◌, Bool, true, false, not, ◌==◌, ◌&&◌, ◌||◌, nat_lt, nat_le, List, [], ◌∷◌, length, slice_get, take, Option, Some, None, is_none, is_some, position, find, IsTrue, ◌⊎◌}
-use Rattle.std.specs.List.{list_any, list_all, filter}
-use Rattle.std.specs.Option.{option_map, option_map_or, option_and_then}
+use Rattle.std.specs.Prelude.{ℕ, ◌≡◌, Bool, List, slice_get, Some, IsTrue, ◌⊎◌}
 use Rattle.pg_perm.specs.declared.draft.Draft.{Draft}
-use Rattle.pg_perm.specs.declared.draft.CacheLine.{CacheLine}
-use Rattle.pg_perm.specs.declared.draft.DirLine.{DirLine}
-use Rattle.pg_perm.specs.declared.draft.MsgLine.{MsgLine}
-use Rattle.pg_perm.specs.declared.draft.CoreLine.{CoreLine}
-use Rattle.pg_perm.specs.declared.draft.TakeLine.{TakeLine}
-use Rattle.pg_perm.specs.declared.draft.RowLine.{RowLine}
 use Rattle.pg_perm.specs.declared.fault.Fault.{Fault}
 use Rattle.pg_perm.specs.declared.fault.Rule.{Rule}
 use Rattle.pg_perm.specs.Rules.{IsNoLater}
+use Rattle.pg_perm.specs.Drafts.{IsWellFormed}
 use Rattle.pg_shape.specs.TextRules.{text_breaks}
 use Rattle.pg_shape.specs.CacheRules.{cache_breaks}
 use Rattle.pg_shape.specs.DirRules.{dir_breaks}
@@ -39,3 +32,8 @@ pub record HasShape (d : Draft) : Type 0 where
 pub record IsShapeFault (d : Draft) (f : Fault) : Type 0 where
   pub broken : BreaksShape d f.line f.rule
   pub least : (L : ℕ) (R : Rule) → BreaksShape d L R → IsNoLater f L R
+
+-- the draft of a protocol
+pub record IsProtocol (d : Draft) : Type 0 where
+  pub well_formed : IsWellFormed d
+  pub shape : HasShape d

@@ -36,7 +36,10 @@ fn is_hit(form: &CoreForm) -> bool
 fn is_out_state(draft: &Draft, state: usize) -> bool
     ensures { result ≡ term.cache_is (λ c. term.is_out c.role) draft.now state }
 {
-    draft.caches.get(state).is_some_and(|cache| is_out(cache.role))
+    draft
+        .caches
+        .get(state)
+        .is_some_and(|cache| is_out(cache.role))
 }
 
 fn leaves_out(draft: &Draft, line: &CoreLine) -> bool
@@ -48,13 +51,19 @@ fn leaves_out(draft: &Draft, line: &CoreLine) -> bool
 fn is_allowed(draft: &Draft, event: Event, state: usize) -> bool
     ensures { result ≡ term.cache_is (rule.allows event) draft.now state }
 {
-    draft.caches.get(state).is_some_and(|cache| allows(event, cache))
+    draft
+        .caches
+        .get(state)
+        .is_some_and(|cache| allows(event, cache))
 }
 
 fn is_not_allowed(draft: &Draft, event: Event, state: usize) -> bool
     ensures { result ≡ term.cache_is (λ c. not (rule.allows event c)) draft.now state }
 {
-    draft.caches.get(state).is_some_and(|cache| !allows(event, cache))
+    draft
+        .caches
+        .get(state)
+        .is_some_and(|cache| !allows(event, cache))
 }
 
 fn asks_needlessly(draft: &Draft, line: &CoreLine) -> bool
@@ -323,9 +332,7 @@ fn breaks_s7(draft: &Draft, line: &CoreLine) -> bool
 fn has_core_line(above: &[CoreLine], line: &CoreLine) -> bool
     ensures { result ≡ rule.has_core_line above.now line.now }
 {
-    above
-        .iter()
-        .any(|other| other.state == line.state && other.event == line.event)
+    above.iter().any(|other| other.state == line.state && other.event == line.event)
 }
 
 fn store_next(state: usize, event: Event, form: &CoreForm) -> Option<usize>

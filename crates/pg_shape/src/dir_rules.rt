@@ -102,7 +102,9 @@ fn lacks_row(draft: &Draft, dir: usize, at: DirCase) -> bool
 fn lacks_rows(draft: &Draft, dir: usize) -> bool
     ensures { result ≡ rule.lacks_rows draft.now dir }
 {
-    cases_at(draft, dir).iter().any(|at| lacks_row(draft, dir, *at))
+    cases_at(draft, dir)
+        .iter()
+        .any(|at| lacks_row(draft, dir, *at))
 }
 
 /// The first rule that the line of a directory state breaks.

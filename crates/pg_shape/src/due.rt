@@ -8,9 +8,7 @@ use crate::terms::{
     forward_of, has_class, is, is_case, is_owner_state, is_read_owner_state, lists, request_of,
     shared,
 };
-use pg_perm::{
-    Action, DirKind, Draft, FwdClass, Left, ReqClass, RowForm, RowLine, TakeLine, Who,
-};
+use pg_perm::{Action, DirKind, Draft, FwdClass, Left, ReqClass, RowForm, RowLine, TakeLine, Who};
 
 /// What is due at an idle directory state.
 const IDLE: &[DirCase] = &[
@@ -151,7 +149,9 @@ pub fn is_due_case(draft: &Draft, dir: usize, at: DirCase) -> bool
 pub fn is_form_due(draft: &Draft, dir: usize, form: RowForm) -> bool
     ensures { result ≡ list_any (term.is_case draft.now form) (due.cases_at draft.now dir) }
 {
-    cases_at(draft, dir).iter().any(|at| is_case(draft, form, *at))
+    cases_at(draft, dir)
+        .iter()
+        .any(|at| is_case(draft, form, *at))
 }
 
 fn is_row_for(draft: &Draft, class: ReqClass, form: RowForm) -> bool
@@ -178,7 +178,8 @@ fn is_row_from(draft: &Draft, class: ReqClass, sender: Who, form: RowForm) -> bo
 pub fn is_reply(take: &TakeLine, reply: usize) -> bool
     ensures { result ≡ term.is take.now.reply reply }
 {
-    take.reply.is_some_and(|number| usize::from(number) == reply)
+    take.reply
+        .is_some_and(|number| usize::from(number) == reply)
 }
 
 fn is_answer(draft: &Draft, dir: usize, forward: usize, reply: usize, take: &TakeLine) -> bool

@@ -8,8 +8,8 @@ use crate::terms::{
     request_of, shared, take_row,
 };
 use pg_perm::{
-    Action, CoreForm, CoreLine, DirKind, Draft, Event, FwdClass, Left, Pair, ReplyName, ReqClass, RowForm,
-    RowLine, Who,
+    Action, CoreForm, CoreLine, DirKind, Draft, Event, FwdClass, Left, Pair, ReplyName, ReqClass,
+    RowForm, RowLine, Who,
 };
 
 /// The core row of who asks.
@@ -100,9 +100,7 @@ fn is_shared_by(draft: &Draft, who: Who, forward: usize, owner: usize) -> bool
 fn are_shared(draft: &Draft, who: Who, forward: usize, owners: &[u8]) -> bool
     ensures { result ≡ rule.are_shared draft.now who forward owners.now }
 {
-    owners
-        .iter()
-        .all(|owner| is_shared_by(draft, who, forward, usize::from(*owner)))
+    owners.iter().all(|owner| is_shared_by(draft, who, forward, usize::from(*owner)))
 }
 
 fn is_kept(draft: &Draft, next: usize, owner: usize) -> bool
@@ -134,9 +132,7 @@ fn is_owner_by(draft: &Draft, who: Who, next: usize, forward: usize, owner: usiz
 fn are_owners(draft: &Draft, who: Who, next: usize, forward: usize, owners: &[u8]) -> bool
     ensures { result ≡ rule.are_owners draft.now who next forward owners.now }
 {
-    owners
-        .iter()
-        .all(|owner| is_owner_by(draft, who, next, forward, usize::from(*owner)))
+    owners.iter().all(|owner| is_owner_by(draft, who, next, forward, usize::from(*owner)))
 }
 
 fn is_listed_by(draft: &Draft, who: Who, next: usize, forward: usize, owner: usize) -> bool
@@ -151,9 +147,7 @@ fn is_listed_by(draft: &Draft, who: Who, next: usize, forward: usize, owner: usi
 fn are_listed(draft: &Draft, who: Who, next: usize, forward: usize, owners: &[u8]) -> bool
     ensures { result ≡ rule.are_listed draft.now who next forward owners.now }
 {
-    owners
-        .iter()
-        .all(|owner| is_listed_by(draft, who, next, forward, usize::from(*owner)))
+    owners.iter().all(|owner| is_listed_by(draft, who, next, forward, usize::from(*owner)))
 }
 
 fn is_upgrade_listed(draft: &Draft, next: usize, owner: usize) -> bool
@@ -168,9 +162,7 @@ fn is_upgrade_listed(draft: &Draft, next: usize, owner: usize) -> bool
 fn are_upgraded(draft: &Draft, next: usize, owners: &[u8]) -> bool
     ensures { result ≡ rule.are_upgraded draft.now next owners.now }
 {
-    owners
-        .iter()
-        .all(|owner| is_upgrade_listed(draft, next, usize::from(*owner)))
+    owners.iter().all(|owner| is_upgrade_listed(draft, next, usize::from(*owner)))
 }
 
 /// Whether a directory state lists all these states.

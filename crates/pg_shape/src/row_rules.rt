@@ -11,12 +11,21 @@ fn same_words(a: RowForm, b: RowForm) -> bool
     ensures { result ≡ rule.same_words a b }
 {
     match (a, b) {
-        (RowForm::Ask { request, who, .. }, RowForm::Ask { request: other, who: sender, .. }) => {
-            request == other && who == sender
-        }
-        (RowForm::Evict { who, left }, RowForm::Evict { who: sender, left: others }) => {
-            who == sender && left == others
-        }
+        (
+            RowForm::Ask { request, who, .. },
+            RowForm::Ask {
+                request: other,
+                who: sender,
+                ..
+            },
+        ) => { request == other && who == sender }
+        (
+            RowForm::Evict { who, left },
+            RowForm::Evict {
+                who: sender,
+                left: others,
+            },
+        ) => { who == sender && left == others }
         _ => false,
     }
 }
@@ -24,9 +33,7 @@ fn same_words(a: RowForm, b: RowForm) -> bool
 fn has_row_line(above: &[RowLine], line: &RowLine) -> bool
     ensures { result ≡ rule.has_row_line above.now line.now }
 {
-    above
-        .iter()
-        .any(|other| other.dir == line.dir && same_words(other.form, line.form))
+    above.iter().any(|other| other.dir == line.dir && same_words(other.form, line.form))
 }
 
 fn is_not_due(draft: &Draft, line: &RowLine) -> bool
@@ -93,8 +100,7 @@ fn acts_wrongly(draft: &Draft, dir: usize, form: RowForm) -> bool
     ((kind_is(DirKind::Idle, draft, dir) || kind_is(DirKind::Shared, draft, dir))
         && !is_reply(action))
         || (is(request_of(draft, ReqClass::Read), request) && !reads_by(draft, dir, action))
-        || (is(request_of(draft, ReqClass::Write), request)
-            && !writes_by(draft, dir, who, action))
+        || (is(request_of(draft, ReqClass::Write), request) && !writes_by(draft, dir, who, action))
 }
 
 /// The first rule that a row line breaks.

@@ -11,9 +11,7 @@ use pg_perm::{Draft, FwdClass, Rule, TakeLine};
 fn has_take_line(above: &[TakeLine], line: &TakeLine) -> bool
     ensures { result ≡ rule.has_take_line above.now line.now }
 {
-    above
-        .iter()
-        .any(|other| other.state == line.state && other.forward == line.forward)
+    above.iter().any(|other| other.state == line.state && other.forward == line.forward)
 }
 
 fn invalidates_wrongly(draft: &Draft, line: &TakeLine) -> bool

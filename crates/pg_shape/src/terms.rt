@@ -67,7 +67,10 @@ pub fn is_read_owner(cache: &CacheLine) -> bool
 pub fn is_owner_state(draft: &Draft, state: usize) -> bool
     ensures { result ≡ term.cache_is (λ c. term.is_owner c.role) draft.now state }
 {
-    draft.caches.get(state).is_some_and(|cache| is_owner(cache.role))
+    draft
+        .caches
+        .get(state)
+        .is_some_and(|cache| is_owner(cache.role))
 }
 
 pub fn is_read_owner_state(draft: &Draft, state: usize) -> bool
@@ -92,14 +95,22 @@ pub fn is_clean_state(draft: &Draft, state: usize) -> bool
 pub fn out(draft: &Draft) -> Option<usize>
     ensures { result ≡ term.out draft.now }
 {
-    draft.caches.as_slice().iter().position(|cache| is_out(cache.role))
+    draft
+        .caches
+        .as_slice()
+        .iter()
+        .position(|cache| is_out(cache.role))
 }
 
 /// The shared state: the first of its role.
 pub fn shared(draft: &Draft) -> Option<usize>
     ensures { result ≡ term.shared draft.now }
 {
-    draft.caches.as_slice().iter().position(|cache| is_shared(cache.role))
+    draft
+        .caches
+        .as_slice()
+        .iter()
+        .position(|cache| is_shared(cache.role))
 }
 
 pub fn perm_of(draft: &Draft, state: usize) -> Option<Perm>
@@ -112,21 +123,32 @@ pub fn perm_of(draft: &Draft, state: usize) -> Option<Perm>
 pub fn request_of(draft: &Draft, class: ReqClass) -> Option<usize>
     ensures { result ≡ term.request_of draft.now class }
 {
-    draft.messages.as_slice().iter().position(|message| is_request_of(class, message.class))
+    draft
+        .messages
+        .as_slice()
+        .iter()
+        .position(|message| is_request_of(class, message.class))
 }
 
 /// The first forward of a class.
 pub fn forward_of(draft: &Draft, class: FwdClass) -> Option<usize>
     ensures { result ≡ term.forward_of draft.now class }
 {
-    draft.messages.as_slice().iter().position(|message| is_forward_of(class, message.class))
+    draft
+        .messages
+        .as_slice()
+        .iter()
+        .position(|message| is_forward_of(class, message.class))
 }
 
 /// There is a forward of this number, and it is of the class.
 pub fn has_class(class: FwdClass, draft: &Draft, forward: usize) -> bool
     ensures { result ≡ term.has_class class draft.now forward }
 {
-    draft.messages.get(forward).is_some_and(|message| is_forward_of(class, message.class))
+    draft
+        .messages
+        .get(forward)
+        .is_some_and(|message| is_forward_of(class, message.class))
 }
 
 /// The cache states that a directory state lists.
@@ -155,21 +177,15 @@ pub fn lists(draft: &Draft, dir: usize, state: usize) -> bool
 pub fn core_row<'a>(draft: &'a Draft, state: usize, event: Event) -> Option<&'a CoreLine>
     ensures { option_copied result ≡ term.core_row draft.now state event }
 {
-    draft
-        .cores
-        .as_slice()
-        .iter()
-        .find(|line| usize::from(line.state) == state && line.event == event)
+    draft.cores.as_slice().iter().find(|line| usize::from(line.state) == state
+        && line.event == event)
 }
 
 pub fn take_row<'a>(draft: &'a Draft, state: usize, forward: usize) -> Option<&'a TakeLine>
     ensures { option_copied result ≡ term.take_row draft.now state forward }
 {
-    draft
-        .takes
-        .as_slice()
-        .iter()
-        .find(|line| usize::from(line.state) == state && usize::from(line.forward) == forward)
+    draft.takes.as_slice().iter().find(|line| usize::from(line.state) == state
+        && usize::from(line.forward) == forward)
 }
 
 /// Whether a row line of this form is for a case.
@@ -190,11 +206,8 @@ pub fn is_case(draft: &Draft, form: RowForm, at: DirCase) -> bool
 pub fn dir_row<'a>(draft: &'a Draft, dir: usize, at: DirCase) -> Option<&'a RowLine>
     ensures { option_copied result ≡ term.dir_row draft.now dir at }
 {
-    draft
-        .rows
-        .as_slice()
-        .iter()
-        .find(|line| usize::from(line.dir) == dir && is_case(draft, line.form, at))
+    draft.rows.as_slice().iter().find(|line| usize::from(line.dir) == dir
+        && is_case(draft, line.form, at))
 }
 
 /// The state that the keep forward leads this state to.
