@@ -5,10 +5,11 @@ use Rattle.pg_io.specs.ReadAll.{GaveCount}
 use Rattle.pg_perm.specs.declared.draft.Draft.{Draft}
 use Rattle.pg_perm.specs.declared.fault.Fault.{Fault}
 use Rattle.pg_text.specs.Texts.{reading}
+use Rattle.pg_shape.specs.FirstFaults.{shape_fault}
 use Rattle.protogen_cli.specs.declared.status.Status.{Status}
 use Rattle.protogen_cli.specs.declared.status.Status.TheVariants.{Done, Text, Usage, ReadFault, WriteFault, Memory, TooLong}
 use Rattle.protogen_cli.specs.Statuses.{IsOfText}
-use Rattle.protogen_cli.specs.Replies.{Reply, too_long, most_bytes, answer_to_text, answer_to_input}
+use Rattle.protogen_cli.specs.Replies.{Reply, too_long, most_bytes, answer_to_fault, answer_to_text, answer_to_input}
 use Rattle.protogen_cli.specs.Ends.{Tells, Outside, Ends}
 
 -- some input is told, whatever the source tells
@@ -30,9 +31,13 @@ long_told (Some old) (Some new) (bytes, given, count) =
 pub answer_to_input-not-usage : (input : List ℕ) → Usage ≡ (answer_to_input input).status → ⊥
 answer_to_input-not-usage input = at_length (nat_lt most_bytes (length input))
   where
+    at_fault : (fault : Option Fault) → Usage ≡ (answer_to_fault fault).status → ⊥
+    at_fault None e = cc
+    at_fault (Some f) e = cc
+
     at_text : (read : Result (Draft × ℕ) Fault) → Usage ≡ (answer_to_text read).status → ⊥
-    at_text (Ok text) e = cc
-    at_text (Err f) e = cc
+    at_text (Ok text) e = at_fault (shape_fault text.0) e
+    at_text (Err f) e = at_fault (Some f) e
 
     at_length : (is_long : Bool) → Usage ≡ (if is_long then too_long else answer_to_text (reading input)).status → ⊥
     at_length true e = cc

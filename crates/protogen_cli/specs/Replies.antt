@@ -1,10 +1,11 @@
 -- What is due to the words and the input: a status, and the bytes to write.
-use Rattle.std.specs.Prelude.{ℕ, nat_lt, List, ◌++◌, length, codes, if◌then◌else◌, Result, Ok, Err}
+use Rattle.std.specs.Prelude.{ℕ, nat_lt, List, ◌++◌, length, codes, if◌then◌else◌, Option, None, Some, Result, Ok, Err}
 use Rattle.std.specs.Fmt.{decimal}
 use Rattle.pg_perm.specs.declared.draft.Draft.{Draft}
 use Rattle.pg_perm.specs.declared.fault.Fault.{Fault}
 use Rattle.pg_perm.specs.Rules.{rule_name}
 use Rattle.pg_text.specs.Texts.{reading}
+use Rattle.pg_shape.specs.FirstFaults.{shape_fault}
 use Rattle.protogen_cli.specs.declared.status.Status.{Status}
 use Rattle.protogen_cli.specs.declared.status.Status.TheVariants.{Done, Text, Usage, TooLong}
 use Rattle.protogen_cli.specs.Words.{is_taken}
@@ -30,10 +31,15 @@ usage = record { status = Usage; bytes = codes "usage\n" }
 abbrev pub too_long : Reply
 too_long = record { status = TooLong; bytes = codes "too long\n" }
 
--- the reply to a text that was read, or to its first fault
+-- the reply to a first fault, or to none
+abbrev pub answer_to_fault : Option Fault → Reply
+answer_to_fault None = record { status = Done; bytes = codes "ok\n" }
+answer_to_fault (Some f) = record { status = Text f; bytes = fault_line f }
+
+-- the reply to a text that was read, which may have a fault of the shape, or to its first fault of the form
 abbrev pub answer_to_text : Result (Draft × ℕ) Fault → Reply
-answer_to_text (Ok text) = record { status = Done; bytes = codes "ok\n" }
-answer_to_text (Err f) = record { status = Text f; bytes = fault_line f }
+answer_to_text (Ok text) = answer_to_fault (shape_fault text.0)
+answer_to_text (Err f) = answer_to_fault (Some f)
 
 -- the reply to the input of `check`
 abbrev pub answer_to_input : List ℕ → Reply

@@ -1,9 +1,12 @@
 ghost use Rattle.std.specs.Prelude.{◌≡◌, ◌<◌, length, IfOk};
+ghost use Rattle.pg_perm.specs.Drafts.{IsWellFormed};
+ghost use Rattle.pg_shape.specs.FirstFaults.{shape_fault};
 ghost use Rattle.pg_text.specs.Texts.{reading};
-ghost use Rattle.protogen_cli.specs.Replies.{answer_to_text, fault_line, too_long};
+ghost use Rattle.protogen_cli.specs.Replies.{answer_to_fault, answer_to_text, fault_line, too_long};
 
 use crate::status::Status;
-use pg_perm::Fault;
+use pg_perm::{Draft, Fault};
+use pg_shape::{ShapeError, shape};
 use pg_text::TextError;
 use std::alloc::{AllocError, Global};
 use std::marker::Model;
@@ -44,13 +47,23 @@ impl Report {
         })
     }
 
+    fn on_draft(alloc: Global, draft: Draft) -> Result<Self, AllocError>
+        requires { IsWellFormed draft }
+        ensures { IfOk result (λ report. report ≡ answer_to_fault (shape_fault draft)) }
+    {
+        match shape(draft) {
+            Ok(_) => Report::new(alloc, Status::Done, "ok\n"),
+            Err(ShapeError::Fault(fault)) => Report::on_fault(alloc, fault),
+        }
+    }
+
     /// Judges a text.
     pub fn on_text(alloc: Global, text: &[u8]) -> Result<Self, AllocError>
         requires { length text.now < 4294967295 }
         ensures { IfOk result (λ report. report ≡ answer_to_text (reading text.now)) }
     {
         match pg_text::read(alloc, text) {
-            Ok(_) => Report::new(alloc, Status::Done, "ok\n"),
+            Ok((draft, _)) => Report::on_draft(alloc, draft),
             Err(TextError::Form(fault)) => Report::on_fault(alloc, fault),
             Err(TextError::Memory) => Err(AllocError),
         }
