@@ -1,7 +1,7 @@
 #!/usr/bin/env bash
 # Times `check` beside `LC_ALL=C wc -w` on the same bytes, on three inputs: MSI with newlines behind it up to 1,048,576 bytes, a text of
 # 512 core lines with as many words as a line may have, and a text at each limit, with 16 cache lines, 16 dir lines of 80 words, 32
-# messages and 512 core, take and row lines. Run it after the program was proved and built. Each is run often, and the fastest run counts.
+# messages and 512 core, take and row lines; the last two break a rule of the shape. Run it after the program was proved and built. Each is run often, and the fastest run counts.
 cd "$(dirname "$0")/.." || exit 2
 program=crates/protogen/out/protogen
 [ -x "$program" ] || { echo "bench: build the program first, by ./protogen" >&2; exit 2; }
@@ -49,7 +49,7 @@ def fastest(command, path):
             start = time.perf_counter()
             done = subprocess.run(command, stdin=source, stdout=subprocess.DEVNULL, env={"LC_ALL": "C"})
             best = min(best, time.perf_counter() - start)
-        assert done.returncode == 0, (command, done.returncode)
+        assert done.returncode in (0, 1), (command, done.returncode)
     return best
 for path in sys.argv[2:]:
     check = fastest([program, "check"], path)
