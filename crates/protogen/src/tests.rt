@@ -1,53 +1,21 @@
 use pg_io::{MemorySink, MemorySource, read_all};
-use pg_perm::{Fault, Rule};
+use pg_perm::{Event, Fault, Left, Perm, ReqClass, Rule, Who};
+use pg_shape::{DirCase, shape};
 use protogen_cli::{Status, protogen};
+use shapes::Case;
 use std::alloc::{AllocError, Global};
 use std::fmt::Write;
+use std::process::Abort;
 use std::test::Fail;
+use texts::{MESI, MI, MOESI, MOSI, MSI};
 
-const MSI: &[u8] = b"protocol MSI
-cache I out none
-cache S shared read
-cache M owner write
-dir I idle
-dir S shared
-dir M owned M
-request GetS read
-request GetM write
-request PutS clean
-request PutM dirty
-forward Inv inv
-forward FwdGetS share
-forward FwdGetM drop
-reply Data data
-core I load GetS Data S
-core I store GetM Data M
-core S load hit
-core S store GetM Data M
-core S evict PutS
-core M load hit
-core M store hit
-core M evict PutM
-take S Inv I
-take M FwdGetS Data S
-take M FwdGetM Data I
-row I GetS other Data S
-row I GetM other Data M
-row S GetS other Data S
-row S GetM other Data M
-row S GetM sharer Data M
-row S evict sharer last I
-row S evict sharer more S
-row M GetS other FwdGetS S
-row M GetM other FwdGetM M
-row M evict owner last I
-end
-";
+mod shapes;
+mod texts;
 
 /// The most bytes that an input may have.
 const MOST_BYTES: usize = 1_048_576;
 
-fn texts(alloc: Global, words: &[&str]) -> Result<Vec<String>, AllocError> {
+fn strings(alloc: Global, words: &[&str]) -> Result<Vec<String>, AllocError> {
     let mut texts = Vec::new(alloc);
     for word in words {
         texts.push(String::from_str(alloc, word)?)?;
@@ -57,7 +25,7 @@ fn texts(alloc: Global, words: &[&str]) -> Result<Vec<String>, AllocError> {
 
 /// How a check of this text ends, and what it writes.
 fn check(alloc: Global, text: Vec<u8>) -> Result<(Status, Vec<u8>), AllocError> {
-    let words = texts(alloc, &["check"])?;
+    let words = strings(alloc, &["check"])?;
     let mut source = MemorySource::new(text, 65536, Vec::new(alloc));
     let mut sink = MemorySink::new(alloc, 4096, 4096, Vec::new(alloc))?;
     let status = protogen(alloc, &words, &mut source, &mut sink);
@@ -68,35 +36,43 @@ fn breaks(line: u32, rule: Rule) -> Status {
     Status::Text(Fault { line, rule })
 }
 
-/// MSI with an S that has no permission, and a cache line between its core lines.
-fn with_late_cache(alloc: Global) -> Result<Vec<u8>, AllocError> {
-    let mut text = Vec::new(alloc);
-    for (before, line) in MSI.split_inclusive(|byte| *byte == b'\n').enumerate() {
-        if before == 2 {
-            text.extend_from_slice(b"cache S shared none\n")?;
-        } else {
-            text.extend_from_slice(line)?;
-        }
-        if before == 15 {
-            text.extend_from_slice(b"cache X owner read\n")?;
-        }
+/// Numbers of lines, and what they are replaced by: none, one or more lines.
+type Edits = &'static [(usize, &'static str)];
+
+/// The text with these lines replaced.
+fn edited(alloc: Global, text: &str, edits: &[(usize, &str)]) -> Result<Vec<u8>, AllocError> {
+    let mut result = Vec::new(alloc);
+    for (line, number) in text.split_inclusive('\n').zip(1..100) {
+        let line = match edits.iter().find(|edit| edit.0 == number) {
+            Some(edit) => edit.1,
+            None => line,
+        };
+        result.extend_from_slice(line.as_bytes())?;
     }
-    Ok(text)
+    Ok(result)
 }
+
+const NO_EDITS: Edits = &[];
+
+/// MSI without a row for a load that is passed on to the owner.
+const NO_SHARE: Edits = &[(25, "")];
+
+/// MSI with an S that has no permission, and a cache line between its core lines.
+const LATE_CACHE: Edits = &[
+    (3, "cache S shared none\n"),
+    (16, "core I load GetS Data S\ncache X owner read\n"),
+];
 
 #[test]
 fn a_text_is_judged(rt: HostRuntime) -> Result<(), Fail> {
     let alloc = rt.alloc();
-    for (text, wanted, line) in [
-        (MSI.to_vec(alloc)?, Status::Done, "ok\n"),
-        (Vec::new(alloc), breaks(1, Rule::F6), "line 1 rule F6\n"),
-        (
-            with_late_cache(alloc)?,
-            breaks(17, Rule::F2),
-            "line 17 rule F2\n",
-        ),
+    for (text, edits, wanted, line) in [
+        (MSI, NO_EDITS, Status::Done, "ok\n"),
+        ("", NO_EDITS, breaks(1, Rule::F6), "line 1 rule F6\n"),
+        (MSI, LATE_CACHE, breaks(17, Rule::F2), "line 17 rule F2\n"),
+        (MSI, NO_SHARE, breaks(4, Rule::S13), "line 4 rule S13\n"),
     ] {
-        let (status, written) = check(alloc, text)?;
+        let (status, written) = check(alloc, edited(alloc, text, edits)?)?;
         assert_eq!(rt; status, wanted, "{line:?}");
         assert_eq!(rt; written.as_slice(), line.as_bytes(), "{line:?}");
     }
@@ -107,10 +83,10 @@ fn a_text_is_judged(rt: HostRuntime) -> Result<(), Fail> {
 fn a_text_that_is_cut_lacks_its_end(rt: HostRuntime) -> Result<(), Fail> {
     let alloc = rt.alloc();
     let mut text = Vec::new(alloc);
-    for (line, missing) in MSI.split_inclusive(|byte| *byte == b'\n').zip(1..37) {
+    for (line, missing) in MSI.split_inclusive('\n').zip(1..37) {
         let (status, _) = check(alloc, text.to_vec(alloc)?)?;
         assert_eq!(rt; status, breaks(missing, Rule::F6));
-        text.extend_from_slice(line)?;
+        text.extend_from_slice(line.as_bytes())?;
     }
     Ok(())
 }
@@ -119,14 +95,14 @@ fn a_text_that_is_cut_lacks_its_end(rt: HostRuntime) -> Result<(), Fail> {
 fn other_words_read_nothing(rt: HostRuntime) -> Result<(), Fail> {
     let alloc = rt.alloc();
     for words in [[].as_slice(), &["chek"], &["check", "check"], &["--help"]] {
-        let words = texts(alloc, words)?;
-        let mut source = MemorySource::new(MSI.to_vec(alloc)?, 100, Vec::new(alloc));
+        let words = strings(alloc, words)?;
+        let mut source = MemorySource::new(MSI.as_bytes().to_vec(alloc)?, 100, Vec::new(alloc));
         let mut sink = MemorySink::new(alloc, 4096, 4096, Vec::new(alloc))?;
         let status = protogen(alloc, &words, &mut source, &mut sink);
         assert_eq!(rt; status, Status::Usage, "{words:?}");
         assert_eq!(rt; sink.held(), b"usage\n".as_slice(), "{words:?}");
         let left = read_all(alloc, &mut source, 4096)?;
-        assert_eq!(rt; left.as_slice(), MSI, "{words:?}");
+        assert_eq!(rt; left.as_slice(), MSI.as_bytes(), "{words:?}");
     }
     Ok(())
 }
@@ -134,13 +110,13 @@ fn other_words_read_nothing(rt: HostRuntime) -> Result<(), Fail> {
 #[test]
 fn a_fault_is_told(rt: HostRuntime) -> Result<(), Fail> {
     let alloc = rt.alloc();
-    let words = texts(alloc, &["check"])?;
+    let words = strings(alloc, &["check"])?;
     for (failing_read, failing_write, wanted, held) in [
         (2, 0, Status::ReadFault, ""),
         (0, 2, Status::WriteFault, "ok"),
     ] {
         let fails = vec![in alloc; failing_read]?;
-        let mut source = MemorySource::new(MSI.to_vec(alloc)?, 100, fails);
+        let mut source = MemorySource::new(MSI.as_bytes().to_vec(alloc)?, 100, fails);
         let mut sink = MemorySink::new(alloc, 4096, 2, vec![in alloc; failing_write]?)?;
         let status = protogen(alloc, &words, &mut source, &mut sink);
         assert_eq!(rt; status, wanted);
@@ -156,13 +132,13 @@ fn the_longest_input_is_judged(rt: HostRuntime) -> Result<(), Fail> {
         (MSI, MOST_BYTES, Status::Done, "ok\n"),
         (MSI, MOST_BYTES + 1, Status::TooLong, "too long\n"),
         (
-            b"protocol MSI\n",
+            "protocol MSI\n",
             MOST_BYTES,
             breaks(2, Rule::F1),
             "line 2 rule F1\n",
         ),
     ] {
-        let mut text = text.to_vec(alloc)?;
+        let mut text = text.as_bytes().to_vec(alloc)?;
         text.resize(len, b'\n')?;
         let (status, written) = check(alloc, text)?;
         assert_eq!(rt; status, wanted, "{len}");
@@ -171,16 +147,132 @@ fn the_longest_input_is_judged(rt: HostRuntime) -> Result<(), Fail> {
     Ok(())
 }
 
-#[test]
-fn there_are_at_most_sixteen_caches(rt: HostRuntime) -> Result<(), Fail> {
-    let alloc = rt.alloc();
+/// So many cache lines of one kind, and nothing else.
+fn caches(alloc: Global, count: u32) -> Result<Vec<u8>, AllocError> {
     let mut text = String::from_str(alloc, "protocol P\n")?;
-    for k in 1..=17 {
+    for k in 1..=count {
         writeln!(text, "cache C{k} owner read")?;
     }
     text.push_str("end\n")?;
-    let (status, written) = check(alloc, text.into_bytes())?;
-    assert_eq!(rt; status, breaks(18, Rule::F5));
-    assert_eq!(rt; written.as_slice(), b"line 18 rule F5\n".as_slice());
+    Ok(text.into_bytes())
+}
+
+/// MI with so many words in the line of its directory state M.
+fn long_line(alloc: Global, words: u32) -> Result<Vec<u8>, AllocError> {
+    let mut line = String::from_str(alloc, "dir M owned")?;
+    for _ in 3..words {
+        line.push_str(" M")?;
+    }
+    line.push_str("\n")?;
+    edited(alloc, MI, &[(5, line.as_str())])
+}
+
+#[test]
+fn texts_at_the_limits_are_judged(rt: HostRuntime) -> Result<(), Fail> {
+    let alloc = rt.alloc();
+    for (text, wanted) in [
+        (caches(alloc, 16)?, breaks(1, Rule::S2)),
+        (caches(alloc, 17)?, breaks(18, Rule::F5)),
+        (long_line(alloc, 80)?, breaks(5, Rule::S4)),
+        (long_line(alloc, 81)?, breaks(5, Rule::F5)),
+    ] {
+        let (status, _) = check(alloc, text)?;
+        assert_eq!(rt; status, wanted);
+    }
+    Ok(())
+}
+
+#[test]
+fn each_protocol_is_one(rt: HostRuntime) -> Result<(), Fail> {
+    let alloc = rt.alloc();
+    for text in [MI, MSI, MESI, MOSI, MOESI] {
+        let (status, _) = check(alloc, text.as_bytes().to_vec(alloc)?)?;
+        assert_eq!(rt; status, Status::Done, "{text}");
+    }
+    Ok(())
+}
+
+/// Checks that each case has its first fault.
+fn tell(rt: &impl Abort, alloc: Global, cases: &[Case]) -> Result<(), Fail> {
+    for (name, base, edits, (line, rule)) in cases {
+        let (status, _) = check(alloc, edited(alloc, base.text(), edits)?)?;
+        assert_eq!(rt; status, breaks(*line, *rule), "{name}");
+    }
+    Ok(())
+}
+
+#[test]
+fn each_rule_of_the_shape_is_told(rt: HostRuntime) -> Result<(), Fail> {
+    let alloc = rt.alloc();
+    for cases in [
+        shapes::CASES_1,
+        shapes::CASES_2,
+        shapes::CASES_3,
+        shapes::CASES_4,
+        shapes::CASES_5,
+        shapes::CASES_6,
+        shapes::CASES_7,
+        shapes::CASES_8,
+        shapes::CASES_9,
+        shapes::CASES_10,
+        shapes::CASES_11,
+        shapes::CASES_12,
+        shapes::CASES_13,
+        shapes::CASES_14,
+        shapes::CASES_15,
+        shapes::CASES_16,
+        shapes::CASES_17,
+        shapes::CASES_18,
+    ] {
+        tell(&rt, alloc, cases)?;
+    }
+    Ok(())
+}
+
+#[test]
+fn other_protocols_are_sound(rt: HostRuntime) -> Result<(), Fail> {
+    let alloc = rt.alloc();
+    for (name, base, edits) in shapes::SOUND {
+        let (status, _) = check(alloc, edited(alloc, base.text(), edits)?)?;
+        assert_eq!(rt; status, Status::Done, "{name}");
+    }
+    Ok(())
+}
+
+#[test]
+fn a_protocol_tells_its_rows(rt: HostRuntime) -> Result<(), Fail> {
+    let (draft, place) = pg_text::read(rt.alloc(), MSI.as_bytes())?;
+    assert_eq!(rt; place as usize, MSI.len());
+    let protocol = shape(draft)?;
+    assert_eq!(rt; protocol.draft().line, 1);
+    assert_eq!(rt; protocol.draft().caches.len(), 3);
+    assert_eq!(rt; protocol.out(), 0);
+    assert_eq!(rt; protocol.shared(), Some(1));
+    assert_eq!(rt; protocol.perm(2), Perm::Write);
+    assert_eq!(rt; protocol.core_row(1, Event::Load).line, 18);
+    assert_eq!(rt; protocol.core_row(2, Event::Store).line, 22);
+    for (state, forward, is_due, line) in [
+        (1, 4, true, Some(24)),
+        (2, 5, true, Some(25)),
+        (2, 6, true, Some(26)),
+        (1, 5, false, None),
+        (2, 4, false, None),
+        (9, 9, false, None),
+    ] {
+        assert_eq!(rt; protocol.due(state, forward), is_due);
+        let row = protocol.take_row(state, forward);
+        assert_eq!(rt; row.map(|row| row.line), line);
+    }
+    for (dir, at, line) in [
+        (0, DirCase::Ask(ReqClass::Read, Who::Other), Some(27)),
+        (1, DirCase::Ask(ReqClass::Write, Who::Sharer), Some(31)),
+        (2, DirCase::Evict(Who::Owner, Left::Last), Some(36)),
+        (0, DirCase::Ask(ReqClass::Write, Who::Sharer), None),
+        (2, DirCase::Evict(Who::Owner, Left::More), None),
+        (9, DirCase::Ask(ReqClass::Read, Who::Other), None),
+    ] {
+        let row = protocol.row(dir, at);
+        assert_eq!(rt; row.map(|row| row.line), line);
+    }
     Ok(())
 }
