@@ -2,5 +2,6 @@ pub mod Rising
 pub mod FirstRules
 pub mod FirstFound
 pub mod Exact
+pub mod Bools
 pub mod Searches
 pub mod Shaped

@@ -42,6 +42,7 @@ use Rattle.pg_shape.specs.CoreRules.{core_breaks}
 use Rattle.pg_shape.specs.TakeRules.{take_breaks, takes_wrongly}
 use Rattle.pg_shape.specs.RowRules.{row_breaks, is_not_due}
 use Rattle.pg_shape.specs.ShapeFaults.{HasShape}
+use Rattle.pg_shape.proofs.Bools.{three_not, three_and, and_not, middle_not, not_false, and_both, one_of}
 use Rattle.pg_shape.proofs.Searches.{not_both, not_true, any_get, any_at, any_not, find_get, position_get, get_below, map_or_get, some_of, copied_none}
 
 -- no rule is broken by the protocol line
@@ -72,41 +73,9 @@ take_keeps d h n x e R = not_true (take_breaks d n x R) (λ b. h.whole x.line R 
 pub row_keeps : (d : Draft) → HasShape d → (n : ℕ) (x : RowLine) → slice_get d.rows n ≡ Some x → (R : Rule) → row_breaks d n x R ≡ false
 row_keeps d h n x e R = not_true (row_breaks d n x R) (λ b. h.whole x.line R (inr (inr (inr (inr (inr (inr (n, x, e, refl, b))))))))
 
-is_one : (o : Option ℕ) (n : ℕ) → is o n ≡ true → o ≡ Some n
+pub is_one : (o : Option ℕ) (n : ℕ) → is o n ≡ true → o ≡ Some n
 is_one None n h = absurd cc
 is_one (Some m) n h = ap Some (eqb-true m n h)
-
-three_not : (a b c : Bool) → (a || b || c) ≡ false → (a ≡ false) × (b ≡ false) × (c ≡ false)
-three_not true b c h = absurd cc
-three_not false true c h = absurd cc
-three_not false false c h = (refl, refl, h)
-
-three_and : (a b c : Bool) → (a && b && c) ≡ true → (a ≡ true) × (b ≡ true) × (c ≡ true)
-three_and true true c h = (refl, refl, h)
-three_and true false c h = absurd cc
-three_and false b c h = absurd cc
-
-and_not : (a b : Bool) → (a && b) ≡ false → a ≡ true → b ≡ false
-and_not true b h e = h
-and_not false b h e = absurd cc
-
-middle_not : (a b c : Bool) → (a && b && c) ≡ false → a ≡ true → c ≡ true → b ≡ false
-middle_not true true true h e g = absurd cc
-middle_not true true false h e g = absurd cc
-middle_not true false c h e g = refl
-middle_not false b c h e g = absurd cc
-
-not_false : (b : Bool) → not b ≡ false → b ≡ true
-not_false true h = refl
-not_false false h = absurd cc
-
-and_both : (a b : Bool) → a ≡ true → b ≡ true → (a && b) ≡ true
-and_both true b h g = g
-and_both false b h g = absurd cc
-
-one_of : (a b : Bool) → (a || b) ≡ true → (a ≡ true) ⊎ (b ≡ true)
-one_of true b h = inl refl
-one_of false b h = inr h
 
 -- there is an out state
 pub has_out : (d : Draft) → HasShape d → (s : ℕ) × (out d ≡ Some s)
@@ -129,7 +98,7 @@ has_core_row d h s event below leaves =
     at Evict leaves t = some_of (core_row d s Evict) (and_not (not (is (out d) s)) _ t.2 (ap not (leaves refl)))
 
 -- a pair with a take line is due
-take_is_due : (d : Draft) → HasShape d → (s f : ℕ) (t : TakeLine) → take_row d s f ≡ Some t → is_due d s f ≡ true
+pub take_is_due : (d : Draft) → HasShape d → (s f : ℕ) (t : TakeLine) → take_row d s f ≡ Some t → is_due d s f ≡ true
 take_is_due d h s f t e =
     let (k, g, passes) = find_get (λ t. (t.state == s) && (t.forward == f)) d.takes t e in
     let same = both (t.state == s) (t.forward == f) passes in
@@ -164,7 +133,7 @@ owner_has_take d h s f owner to_owner passed =
     middle_not (is_to_owner d f) (is_none (take_row d s f)) (lists d r.dir s) here to_owner parts.1
 
 -- a due pair has a take line
-due_has_take : (d : Draft) → HasShape d → (s f : ℕ) → is_due d s f ≡ true → is_none (take_row d s f) ≡ false
+pub due_has_take : (d : Draft) → HasShape d → (s f : ℕ) → is_due d s f ≡ true → is_none (take_row d s f) ≡ false
 due_has_take d h s f due = at (one_of _ _ due)
   where
     at : ((is (shared d) s && is (forward_of d Inv) f) ≡ true)
@@ -187,7 +156,7 @@ pub take_answered : (d : Draft) → HasShape d → (s f : ℕ) (o : Option (Bor 
 take_answered d h s f o e = let rows = take_rows d h s f in (λ none. rows.0 (sym e ∙ ap option_copied none), λ other. copied_none o (e ∙ rows.1 other))
 
 -- words of the same are the same
-who_equal : (a b : Who) → same_who a b ≡ true → a ≡ b
+pub who_equal : (a b : Who) → same_who a b ≡ true → a ≡ b
 who_equal Other Other h = refl
 who_equal Sharer Sharer h = refl
 who_equal Owner Owner h = refl
@@ -227,7 +196,7 @@ one_class (Forward c) a b h g = absurd cc
 one_class Reply a b h g = absurd cc
 
 -- the first requests of two classes differ
-class_equal : (d : Draft) (a b : ReqClass) (m : ℕ) → is (request_of d a) m ≡ true → is (request_of d b) m ≡ true → a ≡ b
+pub class_equal : (d : Draft) (a b : ReqClass) (m : ℕ) → is (request_of d a) m ≡ true → is (request_of d b) m ≡ true → a ≡ b
 class_equal d a b m h g =
     let (x, e, p) = (position_get (λ x. is_request_of a x.class) d.messages m (is_one (request_of d a) m h)).1 in
     let (y, f, q) = (position_get (λ x. is_request_of b x.class) d.messages m (is_one (request_of d b) m g)).1 in
@@ -266,7 +235,7 @@ case_equal (case.Evict w l) (case.Evict v m) h =
     ap (λ (x : Who). case.Evict x l) (who_equal w v p.0) ∙ ap (λ (x : Left). case.Evict v x) (left_equal l m p.1)
 
 -- a case with a row line is due
-row_is_due : (d : Draft) → HasShape d → (n : ℕ) (a : DirCase) (r : RowLine) → dir_row d n a ≡ Some r → is_due_case d n a ≡ true
+pub row_is_due : (d : Draft) → HasShape d → (n : ℕ) (a : DirCase) (r : RowLine) → dir_row d n a ≡ Some r → is_due_case d n a ≡ true
 row_is_due d h n a r e =
     let (k, g, passes) = find_get (λ r. (r.dir == n) && is_case d r.form a) d.rows r e in
     let same = both (r.dir == n) (is_case d r.form a) passes in
@@ -319,7 +288,7 @@ due_has_row d h n l a e due =
     at (case.Evict w m) lacks due = lacks
 
 -- a case that is due has a row line
-due_case_has_row : (d : Draft) → HasShape d → (n : ℕ) (a : DirCase) → is_due_case d n a ≡ true → is_none (dir_row d n a) ≡ false
+pub due_case_has_row : (d : Draft) → HasShape d → (n : ℕ) (a : DirCase) → is_due_case d n a ≡ true → is_none (dir_row d n a) ≡ false
 due_case_has_row d h n a due = at (slice_get d.dirs n) refl
   where
     at : (o : Option DirLine) → slice_get d.dirs n ≡ o → is_none (dir_row d n a) ≡ false

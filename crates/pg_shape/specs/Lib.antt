@@ -8,6 +8,7 @@ pub mod CoreRules
 pub mod TakeRules
 pub mod RowRules
 pub mod NextRules
+pub mod Shaped
 pub mod ShapeFaults
 pub mod FirstFaults
 pub mod Answers

@@ -1,0 +1,49 @@
+-- Answers that are put together.
+use Rattle.std.proofs.Common.{◌≡◌, ◌⊎◌, Bool, true, false, not, ◌&&◌, ◌||◌, refl, inl, inr}
+
+pub three_not : (a b c : Bool) → (a || b || c) ≡ false → (a ≡ false) × (b ≡ false) × (c ≡ false)
+three_not true b c h = absurd cc
+three_not false true c h = absurd cc
+three_not false false c h = (refl, refl, h)
+
+pub three_and : (a b c : Bool) → (a && b && c) ≡ true → (a ≡ true) × (b ≡ true) × (c ≡ true)
+three_and true true c h = (refl, refl, h)
+three_and true false c h = absurd cc
+three_and false b c h = absurd cc
+
+-- of two that aren't both so, the other isn't where the one is
+pub and_not : (a b : Bool) → (a && b) ≡ false → a ≡ true → b ≡ false
+and_not true b h e = h
+and_not false b h e = absurd cc
+
+pub middle_not : (a b c : Bool) → (a && b && c) ≡ false → a ≡ true → c ≡ true → b ≡ false
+middle_not true true true h e g = absurd cc
+middle_not true true false h e g = absurd cc
+middle_not true false c h e g = refl
+middle_not false b c h e g = absurd cc
+
+pub not_false : (b : Bool) → not b ≡ false → b ≡ true
+not_false true h = refl
+not_false false h = absurd cc
+
+pub true_not : (b : Bool) → not b ≡ true → b ≡ false
+true_not true h = absurd cc
+true_not false h = refl
+
+pub and_both : (a b : Bool) → a ≡ true → b ≡ true → (a && b) ≡ true
+and_both true b h g = g
+and_both false b h g = absurd cc
+
+pub one_of : (a b : Bool) → (a || b) ≡ true → (a ≡ true) ⊎ (b ≡ true)
+one_of true b h = inl refl
+one_of false b h = inr h
+
+-- where the one isn't so, the other is
+pub other_of : (a b : Bool) → (a || b) ≡ true → a ≡ false → b ≡ true
+other_of true b h e = absurd cc
+other_of false b h e = h
+
+-- "where a, b" is kept and a is so
+pub where_so : (a b : Bool) → (not a || b) ≡ true → a ≡ true → b ≡ true
+where_so true b h e = h
+where_so false b h e = absurd cc
