@@ -47,3 +47,13 @@ other_of false b h e = h
 pub where_so : (a b : Bool) → (not a || b) ≡ true → a ≡ true → b ≡ true
 where_so true b h e = h
 where_so false b h e = absurd cc
+
+pub or_so : (a b : Bool) → (a ≡ true) ⊎ (b ≡ true) → (a || b) ≡ true
+or_so true b k = refl
+or_so false b (inl h) = absurd cc
+or_so false b (inr h) = h
+
+pub one_three : (a b c : Bool) → (a || b || c) ≡ true → (a ≡ true) ⊎ ((b ≡ true) ⊎ (c ≡ true))
+one_three true b c h = inl refl
+one_three false true c h = inr (inl refl)
+one_three false false c h = inr (inr h)

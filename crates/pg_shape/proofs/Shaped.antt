@@ -162,7 +162,7 @@ who_equal Sharer Sharer h = refl
 who_equal Owner Owner h = refl
 who_equal _ _ h = absurd cc
 
-left_equal : (a b : Left) → same_left a b ≡ true → a ≡ b
+pub left_equal : (a b : Left) → same_left a b ≡ true → a ≡ b
 left_equal Last Last h = refl
 left_equal More More h = refl
 left_equal _ _ h = absurd cc

@@ -22,4 +22,5 @@ mod text_rules;
 pub use cases::DirCase;
 pub use error::ShapeError;
 pub use laws::first_fault_is_exact;
+pub use laws::scratch_law;
 pub use protocol::{Protocol, shape};
