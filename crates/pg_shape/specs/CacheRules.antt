@@ -56,7 +56,7 @@ lacks_inv_line d s = option_map_or (λ f. is (shared d) s && is_none (take_row d
 abbrev pub lacks_answer : Draft → ℕ → RowLine → Bool
 lacks_answer d s r = option_map_or (λ f. is_to_owner d f && is_none (take_row d s f) && lists d r.dir s) (forward_in r.form) false
 
--- a due pair of this state without a take line
+-- a due pair of this state without a take line: the pairs are those of `is_due`, found from the row lines that make them due
 abbrev pub lacks_take_lines : Draft → ℕ → CacheLine → Bool
 lacks_take_lines d s c = lacks_inv_line d s || (is_owner c.role && list_any (lacks_answer d s) d.rows)
 

@@ -53,7 +53,7 @@ abbrev pub moves_at_load : Event → CoreForm → Bool
 moves_at_load Load (Hit (Some next)) = true
 moves_at_load _ _ = false
 
--- the class of what a load or a store asks
+-- the class of what a load or a store asks; no line asks at an evict
 abbrev pub class_of : Event → ReqClass
 class_of Load = Read
 class_of Store = Write
@@ -70,7 +70,7 @@ abbrev pub is_asked_by_load : Draft → ReplyName → Bool
 is_asked_by_load d reply.AckCount = false
 is_asked_by_load d (reply.Reply m) = is_load_reply d m
 
--- a store in a state of this role may get this reply
+-- a store in a state of this role may get this reply; an owner that may write has no line that asks
 abbrev pub is_asked_by_store : Draft → Role → ReplyName → Bool
 is_asked_by_store d role.Out reply.AckCount = false
 is_asked_by_store d role.Out (reply.Reply m) = is_store_reply d Other m
@@ -101,13 +101,13 @@ names_another d role event pairs = list_any (λ p. not (is_asked d role event p.
 abbrev pub misses : Draft → Role → Event → List Pair → ReplyName → Bool
 misses d role event pairs name = is_asked d role event name && not (names pairs name)
 
--- this is so of a reply below this number
+-- a reply below this number that a core may get isn't named
 abbrev pub misses_below : Draft → Role → Event → List Pair → ℕ → Bool
 misses_below d role event pairs zero = false
 misses_below d role event pairs (suc m) =
     misses d role event pairs (reply.Reply m) || misses_below d role event pairs m
 
--- this is so of some reply
+-- some reply that a core may get isn't named
 abbrev pub misses_reply : Draft → Role → Event → List Pair → Bool
 misses_reply d role event pairs = misses d role event pairs reply.AckCount || misses_below d role event pairs (length d.messages)
 
@@ -115,7 +115,7 @@ misses_reply d role event pairs = misses d role event pairs reply.AckCount || mi
 abbrev pub names_wrongly : Draft → Role → Event → List Pair → Bool
 names_wrongly d role event pairs = names_twice pairs || names_another d role event pairs || misses_reply d role event pairs
 
--- and there is the request that asks
+-- the replies of a line that asks aren't those, and the request of its event is declared
 abbrev pub has_wrong_replies : Draft → ℕ → Event → CoreForm → Bool
 has_wrong_replies d s event (Hit next) = false
 has_wrong_replies d s event (Ask request pairs) = is_some (request_of d (class_of event)) && cache_is (λ c. names_wrongly d c.role event pairs) d s
@@ -209,11 +209,11 @@ abbrev pub is_from_cache : Draft → ReplyName → Bool
 is_from_cache d reply.AckCount = false
 is_from_cache d (reply.Reply m) = is_sent d m
 
--- the final state is clean, and a cache may send the reply
+-- the final state is clean, and a cache may send the reply, whose data memory may lack
 abbrev pub is_unclean : Draft → Pair → Bool
 is_unclean d p = cache_is (λ c. c.clean) d p.fin && is_from_cache d p.reply
 
--- this is so of a load
+-- a load may end so
 abbrev pub ends_unclean : Draft → Event → CoreForm → Bool
 ends_unclean d Load (Ask request pairs) = list_any (is_unclean d) pairs
 ends_unclean d _ _ = false

@@ -48,10 +48,11 @@ mixes_a_writer d l = same_kind kind.Mixed l.kind && list_any (cache_is is_write_
 abbrev pub lacks_shared : Draft → DirLine → Bool
 lacks_shared d l = (same_kind kind.Shared l.kind || same_kind kind.Mixed l.kind) && is_none (shared d)
 
+-- the points of S4 on dir lines
 abbrev pub lists_wrongly : Draft → List DirLine → DirLine → Bool
 lists_wrongly d above l = is_second_idle above l || lists_wrong_number l || has_twice l.beside || lists_another d l || mixes_a_writer d l || lacks_shared d l
 
--- the case is there, and has no row line
+-- the request of the case is declared, and the case has no row line
 abbrev pub lacks_row : Draft → ℕ → DirCase → Bool
 lacks_row d n (case.Ask class who) = is_some (request_of d class) && is_none (dir_row d n (case.Ask class who))
 lacks_row d n (case.Evict who left) = is_none (dir_row d n (case.Evict who left))

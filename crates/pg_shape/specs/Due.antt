@@ -51,14 +51,14 @@ is_to_owner d f = has_class Share d f || has_class Keep d f || has_class Drop d 
 abbrev pub is_passed_to : Draft → ℕ → ℕ → RowLine → Bool
 is_passed_to d s f r = is (forward_in r.form) f && lists d r.dir s
 
--- a cache in this state may get this forward: the shared state an inv, and an owner what a row line passes on to it
+-- a cache in this state may get this forward: the shared state an inv, and an owner a share, keep or drop that a row line passes on to it
 abbrev pub is_due : Draft → ℕ → ℕ → Bool
 is_due d s f = (is (shared d) s && is (forward_of d Inv) f)
     || (cache_is (λ c. is_owner c.role) d s && is_to_owner d f && list_any (is_passed_to d s f) d.rows)
 
 -- Directory cases
 
--- the cases that are due at a directory state of this kind, which lists a read owner or lists none
+-- the cases that are due at a directory state of this kind, where the flag tells whether it lists a read owner
 abbrev pub due_cases : DirKind → Bool → List DirCase
 due_cases kind.Idle reads = case.Ask Read Other ∷ case.Ask Write Other ∷ []
 due_cases kind.Shared reads =
@@ -97,7 +97,7 @@ abbrev pub is_row_for : Draft → ReqClass → RowForm → Bool
 is_row_for d class (form.Ask request who action) = is (request_of d class) request
 is_row_for d class (form.Evict who left) = false
 
--- and its sender is so
+-- the row line is for the first request of a class, from a sender that is other, a sharer or the owner
 abbrev pub is_row_from : Draft → ReqClass → Who → RowForm → Bool
 is_row_from d class w (form.Ask request who action) = is (request_of d class) request && same_who who w
 is_row_from d class w (form.Evict who left) = false
@@ -112,7 +112,7 @@ brings d n (action.Reply m) reply = m == reply
 brings d n (action.Forward f) reply = list_any (is_answer d n f reply) d.takes
 brings d n action.Count reply = false
 
--- and where its row line has this form
+-- the requester may get this reply where a row line of a directory state has this form
 abbrev pub row_brings : Draft → ℕ → RowForm → ℕ → Bool
 row_brings d n (form.Ask request who action) reply = brings d n action reply
 row_brings d n (form.Evict who left) reply = false
@@ -121,6 +121,6 @@ row_brings d n (form.Evict who left) reply = false
 abbrev pub is_load_reply : Draft → ℕ → Bool
 is_load_reply d reply = list_any (λ r. is_row_for d Read r.form && row_brings d r.dir r.form reply) d.rows
 
--- a reply that a store may get whose sender is so
+-- a reply that a store may get from a sender that is other, a sharer or the owner
 abbrev pub is_store_reply : Draft → Who → ℕ → Bool
 is_store_reply d who reply = list_any (λ r. is_row_from d Write who r.form && row_brings d r.dir r.form reply) d.rows

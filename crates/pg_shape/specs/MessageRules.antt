@@ -16,7 +16,7 @@ use Rattle.pg_shape.specs.Terms.{is_request_of, is_forward_of, shared}
 abbrev pub has_request : ReqClass → List MsgLine → Bool
 has_request class above = list_any (λ m. is_request_of class m.class) above
 
--- a message above it is a forward of this class
+-- the message is a forward, and one above it is of its class
 abbrev pub has_forward : List MsgLine → MsgClass → Bool
 has_forward above (Request class) = false
 has_forward above (Forward class) = list_any (λ m. is_forward_of class m.class) above

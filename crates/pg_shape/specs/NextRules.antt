@@ -65,7 +65,7 @@ upgrade_of d s = option_and_then (λ c. final_under reply.AckCount c.form) (core
 abbrev pub lists_owner : Draft → ℕ → ℕ → Bool
 lists_owner d n s = lists d n s && cache_is (λ c. is_owner c.role) d s
 
--- a load that memory answers: to kind shared where it ends shared, and from idle to an owned state that lists where it ends
+-- a load that memory answers: to kind shared where it ends shared, and from idle to an owned state that lists where it ends, which is an owner
 abbrev pub is_read_end : Draft → RowLine → ℕ → Bool
 is_read_end d r s = (kind_is kind.Shared d r.next && is (shared d) s)
     || (kind_is kind.Idle d r.dir && kind_is kind.Owned d r.next && lists_owner d r.next s)
@@ -128,6 +128,7 @@ abbrev pub reads_owner : Draft → RowLine → Who → ℕ → Bool
 reads_owner d r who f = (not (has_class Share d f) || leads_to_shared d r who f) && (not (has_class Keep d f) || leads_to_mixed d r who f)
     && (not (has_class Drop d f) || leads_to_owned d r who f)
 
+-- a READ; that its action is none of these is another rule's
 abbrev pub reads_rightly : Draft → RowLine → Who → Action → Bool
 reads_rightly d r who (action.Reply m) = reads_memory d r who m
 reads_rightly d r who (action.Forward f) = reads_owner d r who f

@@ -49,12 +49,12 @@ forwards class d (action.Reply m) = false
 forwards class d (action.Forward f) = has_class class d f
 forwards class d action.Count = false
 
--- READ, where there is an owner
+-- where there is an owner, READ is passed on, and where there may be sharers beside it, the owner keeps a copy
 abbrev pub reads_by : Draft → ℕ → Action → Bool
 reads_by d n action = (not (kind_is kind.Owned d n) || forwards Share d action || forwards Keep d action || forwards Drop d action)
     && (not (kind_is kind.Mixed d n) || forwards Share d action || forwards Keep d action)
 
--- WRITE: of another or a sharer where there is an owner, and of an owner
+-- where there is an owner, the WRITE of another or of a sharer drops it; the WRITE of the owner is counted
 abbrev pub writes_by : Draft → ℕ → Who → Action → Bool
 writes_by d n Other action = not (kind_is kind.Owned d n || kind_is kind.Mixed d n) || forwards Drop d action
 writes_by d n Sharer action = not (kind_is kind.Owned d n || kind_is kind.Mixed d n) || forwards Drop d action

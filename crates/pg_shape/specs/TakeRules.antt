@@ -14,20 +14,20 @@ use Rattle.pg_shape.specs.Due.{is_due}
 abbrev pub has_take_line : List TakeLine → TakeLine → Bool
 has_take_line above t = list_any (λ x. (x.state == t.state) && (x.forward == t.forward)) above
 
--- a copy is given up without data
+-- not so: the copy is given up without data
 abbrev pub invalidates_wrongly : Draft → TakeLine → Bool
 invalidates_wrongly d t = is_some t.reply || is_other (out d) t.next
 
--- the owner becomes a sharer and sends data
+-- not so: the owner becomes a sharer and sends data
 abbrev pub shares_wrongly : Draft → TakeLine → Bool
 shares_wrongly d t = is_none t.reply || not (is (shared d) t.next)
 
--- the owner stays one that may only read, is clean only if it was, and sends data
+-- not so: the owner is one that may only read, is clean only if it was, and sends data
 abbrev pub keeps_wrongly : Draft → TakeLine → Bool
 keeps_wrongly d t = is_none t.reply || not (cache_is is_read_owner d t.next)
     || (cache_is (λ c. c.clean) d t.next && not (cache_is (λ c. c.clean) d t.state))
 
--- the owner gives its copy up and sends data
+-- not so: the owner gives its copy up and sends data
 abbrev pub drops_wrongly : Draft → TakeLine → Bool
 drops_wrongly d t = is_none t.reply || is_other (out d) t.next
 
