@@ -6,3 +6,4 @@ pub mod Bools
 pub mod Searches
 pub mod Shaped
 pub mod Rows
+pub mod Nexts

@@ -42,18 +42,18 @@ listed_all p d n x all lists =
     subst (λ z. p z ≡ true) (eqb-true y x same) (all_at p (listed d n) j y all e)
 
 -- what isn't there passes, and what is there does
-passing : (p : ℕ → Bool) (o : Option ℕ) (s : ℕ) → passes p o ≡ true → o ≡ Some s → p s ≡ true
+pub passing : (p : ℕ → Bool) (o : Option ℕ) (s : ℕ) → passes p o ≡ true → o ≡ Some s → p s ≡ true
 passing p o s h e = let P : Option ℕ → Type 0 = λ x. passes p x ≡ true in subst P e h
 
 -- a row line for a request
-record Asked (d : Draft) (n : ℕ) (class : ReqClass) (w : Who) (r : RowLine) : Type 0 where
-  request : ℕ
-  does : Action
-  spelled : r.form ≡ form.Ask request w does
-  asks : is (request_of d class) request ≡ true
-  dir : r.dir ≡ n
-  acts : acts_wrongly d n (form.Ask request w does) ≡ false
-  leads : leads_rightly d r (form.Ask request w does) ≡ true
+pub record Asked (d : Draft) (n : ℕ) (class : ReqClass) (w : Who) (r : RowLine) : Type 0 where
+  pub request : ℕ
+  pub does : Action
+  pub spelled : r.form ≡ form.Ask request w does
+  pub asks : is (request_of d class) request ≡ true
+  pub dir : r.dir ≡ n
+  pub acts : acts_wrongly d n (form.Ask request w does) ≡ false
+  pub leads : leads_rightly d r (form.Ask request w does) ≡ true
 
 ask_form : (d : Draft) (f : RowForm) (class : ReqClass) (w : Who) → is_case d f (case.Ask class w) ≡ true
     → (request : ℕ) × (does : Action) × (f ≡ form.Ask request w does) × (is (request_of d class) request ≡ true)
@@ -62,21 +62,21 @@ ask_form d (form.Ask request who does) class w h =
     (request, does, ap (λ (x : Who). form.Ask request x does) (who_equal who w p.1), p.0)
 ask_form d (form.Evict who left) class w h = absurd cc
 
-evict_form : (d : Draft) (f : RowForm) (w : Who) (l : Left) → is_case d f (case.Evict w l) ≡ true → f ≡ form.Evict w l
+pub evict_form : (d : Draft) (f : RowForm) (w : Who) (l : Left) → is_case d f (case.Evict w l) ≡ true → f ≡ form.Evict w l
 evict_form d (form.Ask request who does) w l h = absurd cc
 evict_form d (form.Evict who left) w l h =
     let p = both (same_who who w) (same_left left l) h in
     ap (λ (x : Who). form.Evict x left) (who_equal who w p.0) ∙ ap (λ (x : Left). form.Evict w x) (left_equal left l p.1)
 
 -- the row of a case is a row line for it
-row_at : (d : Draft) (n : ℕ) (a : DirCase) (r : RowLine) → dir_row d n a ≡ Some r
+pub row_at : (d : Draft) (n : ℕ) (a : DirCase) (r : RowLine) → dir_row d n a ≡ Some r
     → (k : ℕ) × (slice_get d.rows k ≡ Some r) × (r.dir ≡ n) × (is_case d r.form a ≡ true)
 row_at d n a r e =
     let (k, g, p) = find_get (λ r. (r.dir == n) && is_case d r.form a) d.rows r e in
     let q = both (r.dir == n) (is_case d r.form a) p in
     (k, g, eqb-true r.dir n q.0, q.1)
 
-asked : (d : Draft) → HasShape d → (n : ℕ) (class : ReqClass) (w : Who) (r : RowLine) → dir_row d n (case.Ask class w) ≡ Some r → Asked d n class w r
+pub asked : (d : Draft) → HasShape d → (n : ℕ) (class : ReqClass) (w : Who) (r : RowLine) → dir_row d n (case.Ask class w) ≡ Some r → Asked d n class w r
 asked d h n class w r e =
     let (k, g, dir, for) = row_at d n (case.Ask class w) r e in
     let (request, does, f, asks) = ask_form d r.form class w for in
@@ -112,7 +112,7 @@ forwards-form class d action.Count h = absurd cc
 does_form : (d : Draft) (n : ℕ) (class : ReqClass) (w : Who) (r : RowLine) (a : Asked d n class w r) → action_in r.form ≡ Some a.does
 does_form d n class w r a = ap action_in a.spelled
 
-same_action : (d : Draft) (n : ℕ) (class : ReqClass) (w : Who) (r : RowLine) (a : Asked d n class w r) (x : Action) → action_in r.form ≡ Some x → a.does ≡ x
+pub same_action : (d : Draft) (n : ℕ) (class : ReqClass) (w : Who) (r : RowLine) (a : Asked d n class w r) (x : Action) → action_in r.form ≡ Some x → a.does ≡ x
 same_action d n class w r a x e = same_Some {A = Action} a.does x (sym (does_form d n class w r a) ∙ e)
 
 -- the action is none that breaks a rule

@@ -5,7 +5,7 @@ ghost use Rattle.pg_perm.specs.declared.draft.Draft.{Draft};
 ghost use Rattle.pg_perm.specs.declared.fault.Fault.{Fault};
 ghost use Rattle.pg_perm.specs.Drafts.{IsWellFormed};
 ghost use Rattle.pg_shape.specs.ShapeFaults.{HasShape, IsShapeFault};
-ghost use Rattle.pg_shape.specs.Shaped.{HasRows};
+ghost use Rattle.pg_shape.specs.Shaped.{HasRows, HasReads, HasWrites, HasEvicts};
 ghost use Rattle.pg_shape.specs.FirstFaults.{shape_fault};
 
 /// Judging a well-formed draft gives a fault exactly where it is the first one, and none exactly where no line breaks a rule.
@@ -16,5 +16,5 @@ pub fn first_fault_is_exact()
 
 pub fn scratch_law()
     ensures other { (d : Draft) → d ≡ d }
-    ensures it { (d : Draft) → IsWellFormed d → HasShape d → HasRows d }
+    ensures it { (d : Draft) → IsWellFormed d → HasShape d → HasRows d × HasReads d × HasWrites d × HasEvicts d }
 {}
