@@ -7,3 +7,4 @@ pub mod Searches
 pub mod Shaped
 pub mod Rows
 pub mod Nexts
+pub mod Takes

@@ -272,6 +272,20 @@ due_class kind.Owned false Dirty w h = absurd cc
 due_class _ reads Clean w h = absurd cc
 due_class _ reads Dirty w h = absurd cc
 
+-- a case is the same as itself
+pub same_case_self : (a : DirCase) → same_case a a ≡ true
+same_case_self (case.Ask c w) = and_both (same_request c c) (same_who w w) (request_same c) (who_same w)
+same_case_self (case.Evict w l) = and_both (same_who w w) (same_left l l) (who_same w) (left_same l)
+
+-- what is due of requests at a directory state is READ or WRITE
+pub due_class_of : (d : Draft) (n : ℕ) (c : ReqClass) (w : Who) → is_due_case d n (case.Ask c w) ≡ true → (c ≡ Read) ⊎ (c ≡ Write)
+due_class_of d n c w due = at (slice_get d.dirs n) due
+  where
+    at : (o : Option DirLine) → list_any (same_case (case.Ask c w)) (option_map_or (λ l. due_cases l.kind (lists_read_owner d l.beside)) o []) ≡ true
+        → (c ≡ Read) ⊎ (c ≡ Write)
+    at None due = absurd cc
+    at (Some l) due = due_class l.kind (lists_read_owner d l.beside) c w due
+
 -- a due case of a directory state that is there has a row line
 due_has_row : (d : Draft) → HasShape d → (n : ℕ) (l : DirLine) (a : DirCase) → slice_get d.dirs n ≡ Some l → is_due_case d n a ≡ true
     → is_none (dir_row d n a) ≡ false
