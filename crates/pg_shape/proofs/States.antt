@@ -1,13 +1,12 @@
 -- What the shape says of cache states, directory states and forwards.
 use Rattle.std.proofs.Common.{◌≡◌, ℕ, zero, suc, ◌<◌, ◌⊎◌, Bool, true, false, not, ◌&&◌, ◌||◌, List, [], ◌∷◌, Option, Some, None, refl, sym, subst, ap, ◌∙◌, arith, inl, inr}
-use Rattle.std.specs.Prelude.{slice_get, take, position, is_none, is_some, ◌==◌}
+use Rattle.std.specs.Prelude.{slice_get, take, position, is_some, ◌==◌, nat_le}
 use Rattle.std.specs.Option.{option_map_or}
 use Rattle.std.specs.List.{list_any}
 use Rattle.std.proofs.lemmas.Bool.{or_parts, eqb-true, eq-eqb}
 use Rattle.std.proofs.lemmas.Option.{same_Some}
 use Rattle.pg_perm.specs.declared.kinds.Perm.{Perm}
 use Rattle.pg_perm.specs.declared.kinds.Perm.TheVariants as perm
-use Rattle.pg_perm.specs.declared.kinds.DirKind.{DirKind}
 use Rattle.pg_perm.specs.declared.kinds.DirKind.TheVariants as kind
 use Rattle.pg_perm.specs.declared.kinds.FwdClass.{FwdClass}
 use Rattle.pg_perm.specs.declared.kinds.FwdClass.TheVariants.{Inv, Share, Keep, Drop}
@@ -22,13 +21,13 @@ use Rattle.pg_shape.specs.Terms.{is_out, is_shared, is_owner, is_none_perm, is_r
 use Rattle.pg_shape.specs.Terms as terms
 use Rattle.pg_shape.specs.Due.{same_kind, kind_is}
 use Rattle.pg_shape.specs.TextRules.{has_kind, lacks_dirs, lacks_inv}
-use Rattle.pg_shape.specs.CacheRules.{has_wrong_perm, is_one_too_many, is_needlessly_clean, is_listed, is_unlisted}
+use Rattle.pg_shape.specs.CacheRules.{has_wrong_perm, owners, is_one_too_many, is_needlessly_clean, is_listed, is_unlisted}
 use Rattle.pg_shape.specs.CacheRules as cache
 use Rattle.pg_shape.specs.DirRules.{is_idle, is_second_idle, has_no_owner, is_empty, lists_wrong_number, has_twice, lists_another, mixes_a_writer, lacks_shared, lists_wrongly}
 use Rattle.pg_shape.specs.MessageRules.{has_forward, is_inv_to_none}
 use Rattle.pg_shape.specs.ShapeFaults.{HasShape}
 use Rattle.pg_shape.specs.Shaped.{IsCache, IsDir, HasPerms, HasLists, HasForwards}
-use Rattle.pg_shape.proofs.Bools.{three_not, and_not, not_false, and_both, one_of}
+use Rattle.pg_shape.proofs.Bools.{three_not, and_not, not_false, and_both}
 use Rattle.pg_shape.proofs.Searches.{not_both, or_left, or_right, any_get, any_at, any_not, position_get, position_none, map_or_get, some_of}
 use Rattle.pg_shape.proofs.Shaped.{text_keeps, cache_keeps, dir_keeps, message_keeps, has_out}
 
@@ -54,7 +53,8 @@ one_place p xs once i j x y e h f g = omega (arith, not_below i j x y e h f g, n
     not_below i j x y e h f g below = not_both (list_any p (take j xs)) (any_above p xs i j x below e h) (once j y f g)
 
 -- and one that passes is the first
-first_place : {X : Type 0} (p : X → Bool) (xs : List X) → PassesOnce p xs → (s : ℕ) (x : X) → slice_get xs s ≡ Some x → p x ≡ true → position p xs ≡ Some s
+first_place : {X : Type 0} (p : X → Bool) (xs : List X) → PassesOnce p xs → (s : ℕ) (x : X) → slice_get xs s ≡ Some x → p x ≡ true
+    → position p xs ≡ Some s
 first_place p xs once s x e h = at (position p xs) refl
   where
     at : (o : Option ℕ) → position p xs ≡ o → o ≡ Some s
@@ -63,17 +63,21 @@ first_place p xs once s x e h = at (position p xs) refl
 
 -- Cache states
 
+-- the line of a cache state is no second of its role, nor an owner too many
+not_too_many : (d : Draft) → HasShape d → (s : ℕ) (c : CacheLine) → IsCache d s c
+    → ((is_out c.role && cache.has_out (take s d.caches)) ≡ false) × ((is_shared c.role && cache.has_shared (take s d.caches)) ≡ false)
+    × ((is_owner c.role && nat_le 12 (owners (take s d.caches))) ≡ false)
+not_too_many d h s c e =
+    let kept : is_one_too_many (take s d.caches) c ≡ false = cache_keeps d h s c e S2 in
+    three_not (is_out c.role && cache.has_out (take s d.caches)) (is_shared c.role && cache.has_shared (take s d.caches)) _ kept
+
 -- there is one out state
 one_out : (d : Draft) → HasShape d → PassesOnce (λ c. is_out c.role) d.caches
-one_out d h s c e role =
-    let kept : is_one_too_many (take s d.caches) c ≡ false = cache_keeps d h s c e S2 in
-    and_not (is_out c.role) _ (three_not (is_out c.role && cache.has_out (take s d.caches)) (is_shared c.role && cache.has_shared (take s d.caches)) _ kept).0 role
+one_out d h s c e role = and_not (is_out c.role) _ (not_too_many d h s c e).0 role
 
 -- and at most one shared state
 one_shared : (d : Draft) → HasShape d → PassesOnce (λ c. is_shared c.role) d.caches
-one_shared d h s c e role =
-    let kept : is_one_too_many (take s d.caches) c ≡ false = cache_keeps d h s c e S2 in
-    and_not (is_shared c.role) _ (three_not (is_out c.role && cache.has_out (take s d.caches)) (is_shared c.role && cache.has_shared (take s d.caches)) _ kept).1 role
+one_shared d h s c e role = and_not (is_shared c.role) _ (not_too_many d h s c e).1 role
 
 -- the permission of a cache state goes with its role
 right_perm : (d : Draft) → HasShape d → (s : ℕ) (c : CacheLine) → IsCache d s c
@@ -102,6 +106,7 @@ perms d h = record {
 
 -- Directory states
 
+-- of six of which none is so
 six_not : (a b c d e f : Bool) → (a || b || c || d || e || f) ≡ false
     → (a ≡ false) × (b ≡ false) × (c ≡ false) × (d ≡ false) × (e ≡ false) × (f ≡ false)
 six_not true b c d e f h = absurd cc
@@ -127,16 +132,18 @@ listed_in d n s l e = sym (ap (λ (o : Option DirLine). lists_state (option_map_
 listed_get : (d : Draft) (n s : ℕ) → terms.lists d n s ≡ true → (l : DirLine) × (IsDir d n l) × (lists_state l.beside s ≡ true)
 listed_get d n s h = at (slice_get d.dirs n) h
   where
-    at : (o : Option DirLine) → lists_state (option_map_or (λ l. l.beside) o []) s ≡ true → (l : DirLine) × (o ≡ Some l) × (lists_state l.beside s ≡ true)
+    at : (o : Option DirLine) → lists_state (option_map_or (λ l. l.beside) o []) s ≡ true
+        → (l : DirLine) × (o ≡ Some l) × (lists_state l.beside s ≡ true)
     at None h = absurd cc
     at (Some l) h = (l, refl, h)
 
--- a state that is listed where none passes doesn't
+-- a state that is listed where none passes doesn't pass
 listed_not : (p : ℕ → Bool) (states : List ℕ) (s : ℕ) → list_any p states ≡ false → lists_state states s ≡ true → p s ≡ false
 listed_not p states s h listed =
     let (k, x, e, same) = any_get (λ x. x == s) states listed in
     subst (λ m. p m ≡ false) (eqb-true x s same) (any_not p states k x h e)
 
+-- a list that is empty is the empty list
 empty_none : (states : List ℕ) → is_empty states ≡ true → states ≡ []
 empty_none [] h = refl
 empty_none (s ∷ states) h = absurd cc
@@ -151,9 +158,11 @@ right_number : (d : Draft) → HasShape d → (n : ℕ) (l : DirLine) → IsDir 
     → ((has_no_owner l.kind && not (is_empty l.beside)) ≡ false) × ((not (has_no_owner l.kind) && is_empty l.beside) ≡ false)
 right_number d h n l e = or_parts (has_no_owner l.kind && not (is_empty l.beside)) _ (right_list d h n l e).1
 
+-- where there is no owner nothing is listed
 lists_none : (d : Draft) → HasShape d → (n : ℕ) (l : DirLine) → IsDir d n l → has_no_owner l.kind ≡ true → l.beside ≡ []
 lists_none d h n l e none = empty_none l.beside (not_false (is_empty l.beside) (and_not (has_no_owner l.kind) _ (right_number d h n l e).0 none))
 
+-- where there is one some state is
 lists_some : (d : Draft) → HasShape d → (n : ℕ) (l : DirLine) → IsDir d n l → has_no_owner l.kind ≡ false → (s : ℕ) × (terms.lists d n s ≡ true)
 lists_some d h n l e some =
     let (s, listed) = some_listed l.beside (and_not (not (has_no_owner l.kind)) _ (right_number d h n l e).1 (ap not some)) in
@@ -172,7 +181,7 @@ read_left perm.None h g = absurd cc
 read_left perm.Read h g = refl
 read_left perm.Write h g = absurd cc
 
--- a cache state that is there is so
+-- a test of a cache state that is there is one of its line
 cache_at : (p : CacheLine → Bool) (d : Draft) (s : ℕ) (c : CacheLine) → IsCache d s c → cache_is p d s ≡ p c
 cache_at p d s c e = ap (λ (o : Option CacheLine). option_map_or p o false) e
 
@@ -213,6 +222,7 @@ has_idle d h =
 idle_once : (d : Draft) → HasShape d → PassesOnce is_idle d.dirs
 idle_once d h n l e idle = and_not (is_idle l) _ (right_list d h n l e).0 idle
 
+-- two that are idle are the same
 one_idle : (d : Draft) → HasShape d → (n m : ℕ) → kind_is kind.Idle d n ≡ true → kind_is kind.Idle d m ≡ true → n ≡ m
 one_idle d h n m idle other =
     let (l, e, p) = map_or_get is_idle (slice_get d.dirs n) idle in
@@ -220,15 +230,20 @@ one_idle d h n m idle other =
     one_place is_idle d.dirs (idle_once d h) n m l k e p f q
 
 -- where there may be sharers there is a shared state
-has_shared : (d : Draft) → HasShape d → (n : ℕ) → (kind_is kind.Shared d n ≡ true) ⊎ (kind_is kind.Mixed d n ≡ true) → (s : ℕ) × (shared d ≡ Some s)
+sharers_shared : (d : Draft) → HasShape d → (n : ℕ) (l : DirLine) → IsDir d n l → (same_kind kind.Shared l.kind || same_kind kind.Mixed l.kind) ≡ true
+    → (s : ℕ) × (shared d ≡ Some s)
+sharers_shared d h n l e sharers =
+    some_of (shared d) (and_not (same_kind kind.Shared l.kind || same_kind kind.Mixed l.kind) _ (right_list d h n l e).5 sharers)
+
+-- so it is where the kind is shared or mixed
+has_shared : (d : Draft) → HasShape d → (n : ℕ) → (kind_is kind.Shared d n ≡ true) ⊎ (kind_is kind.Mixed d n ≡ true)
+    → (s : ℕ) × (shared d ≡ Some s)
 has_shared d h n (inl of_kind) =
     let (l, e, p) = map_or_get (λ l. same_kind kind.Shared l.kind) (slice_get d.dirs n) of_kind in
-    let sharers : (same_kind kind.Shared l.kind || same_kind kind.Mixed l.kind) ≡ true = or_left (same_kind kind.Shared l.kind) _ p in
-    some_of (shared d) (and_not (same_kind kind.Shared l.kind || same_kind kind.Mixed l.kind) _ (right_list d h n l e).5 sharers)
+    sharers_shared d h n l e (or_left (same_kind kind.Shared l.kind) _ p)
 has_shared d h n (inr of_kind) =
     let (l, e, p) = map_or_get (λ l. same_kind kind.Mixed l.kind) (slice_get d.dirs n) of_kind in
-    let sharers : (same_kind kind.Shared l.kind || same_kind kind.Mixed l.kind) ≡ true = or_right (same_kind kind.Shared l.kind) _ p in
-    some_of (shared d) (and_not (same_kind kind.Shared l.kind || same_kind kind.Mixed l.kind) _ (right_list d h n l e).5 sharers)
+    sharers_shared d h n l e (or_right (same_kind kind.Shared l.kind) _ p)
 
 -- what the shape says of the lists
 pub lists : (d : Draft) → HasShape d → HasLists d
@@ -245,6 +260,7 @@ lists d h = record {
 
 -- Forwards
 
+-- words of the same are the same
 forward_equal : (a b : FwdClass) → same_forward a b ≡ true → a ≡ b
 forward_equal Inv Inv h = refl
 forward_equal Share Share h = refl
@@ -265,6 +281,7 @@ one_of_class d h class n m e of_class =
     let kept : (has_forward (take n d.messages) m.class || is_inv_to_none d m) ≡ false = message_keeps d h n m e S6 in
     sym (second_forward (take n d.messages) class m.class of_class) ∙ (or_parts (has_forward (take n d.messages) m.class) _ kept).0
 
+-- two forwards of a class are the same
 one_forward : (d : Draft) → HasShape d → (class : FwdClass) (f g : ℕ) → has_class class d f ≡ true → has_class class d g ≡ true → f ≡ g
 one_forward d h class f g at_f at_g =
     let (x, e, p) = map_or_get (λ m. is_forward_of class m.class) (slice_get d.messages f) at_f in
