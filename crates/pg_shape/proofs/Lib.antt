@@ -8,3 +8,4 @@ pub mod Shaped
 pub mod Rows
 pub mod Nexts
 pub mod Takes
+pub mod States
