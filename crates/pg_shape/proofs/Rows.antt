@@ -23,10 +23,10 @@ use Rattle.pg_perm.specs.declared.draft.RowForm.TheVariants as form
 use Rattle.pg_perm.specs.declared.draft.Action.{Action}
 use Rattle.pg_perm.specs.declared.draft.Action.TheVariants as action
 use Rattle.pg_perm.specs.declared.fault.Rule.TheVariants.{S16, S17}
-use Rattle.pg_shape.specs.declared.cases.DirCase.{DirCase}
-use Rattle.pg_shape.specs.declared.cases.DirCase.TheVariants as case
-use Rattle.pg_shape.specs.Terms.{is, is_owner, is_read_owner, cache_is, shared, request_of, same_who, same_left, has_class, listed, lists, is_case, dir_row, keep_of}
-use Rattle.pg_shape.specs.Due.{kind_is, is_due_case}
+use Rattle.pg_terms.specs.declared.cases.DirCase.{DirCase}
+use Rattle.pg_terms.specs.declared.cases.DirCase.TheVariants as case
+use Rattle.pg_terms.specs.Terms.{is, is_owner, is_read_owner, cache_is, shared, request_of, same_who, same_left, has_class, listed, lists, is_case, dir_row, keep_of}
+use Rattle.pg_terms.specs.Due.{kind_is, is_due_case}
 use Rattle.pg_shape.specs.RowRules.{is_reply, is_count, forwards, reads_by, writes_by, acts_wrongly}
 use Rattle.pg_shape.specs.NextRules.{passes, final_of, reply_to, final_by, upgrade_of, lists_owner, is_read_end, is_shared_by, is_kept, is_owner_by, is_listed_by, is_upgrade_listed, leads_to_shared, leads_to_mixed, leads_to_owned, reads_owner, reads_rightly, lists_writer, writes_rightly, evicts_rightly, leads_rightly}
 use Rattle.pg_shape.specs.ShapeFaults.{HasShape}

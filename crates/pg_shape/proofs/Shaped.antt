@@ -30,10 +30,10 @@ use Rattle.pg_perm.specs.declared.draft.RowForm.{RowForm}
 use Rattle.pg_perm.specs.declared.draft.RowForm.TheVariants as form
 use Rattle.pg_perm.specs.declared.fault.Rule.{Rule}
 use Rattle.pg_perm.specs.declared.fault.Rule.TheVariants.{S2, S5, S8, S12, S13, S15, S18}
-use Rattle.pg_shape.specs.declared.cases.DirCase.{DirCase}
-use Rattle.pg_shape.specs.declared.cases.DirCase.TheVariants as case
-use Rattle.pg_shape.specs.Terms.{is, is_shared, is_owner, is_request_of, same_request, same_who, same_left, cache_is, out, shared, request_of, forward_of, core_row, take_row, is_case, dir_row, lists}
-use Rattle.pg_shape.specs.Due.{forward_in, is_to_owner, is_passed_to, is_due, due_cases, lists_read_owner, cases_at, same_case, is_due_case}
+use Rattle.pg_terms.specs.declared.cases.DirCase.{DirCase}
+use Rattle.pg_terms.specs.declared.cases.DirCase.TheVariants as case
+use Rattle.pg_terms.specs.Terms.{is, is_shared, is_owner, is_request_of, same_request, same_who, same_left, cache_is, out, shared, request_of, forward_of, core_row, take_row, is_case, dir_row, lists}
+use Rattle.pg_terms.specs.Due.{forward_in, is_to_owner, is_passed_to, is_due, due_cases, lists_read_owner, cases_at, same_case, is_due_case}
 use Rattle.pg_shape.specs.TextRules.{text_breaks}
 use Rattle.pg_shape.specs.CacheRules.{cache_breaks, lacks_core_lines, lacks_inv_line, lacks_answer, lacks_take_lines}
 use Rattle.pg_shape.specs.DirRules.{dir_breaks, lacks_row}

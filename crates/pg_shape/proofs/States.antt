@@ -17,9 +17,9 @@ use Rattle.pg_perm.specs.declared.draft.CacheLine.{CacheLine}
 use Rattle.pg_perm.specs.declared.draft.DirLine.{DirLine}
 use Rattle.pg_perm.specs.declared.draft.MsgLine.{MsgLine}
 use Rattle.pg_perm.specs.declared.fault.Rule.TheVariants.{S1, S2, S3, S4, S6}
-use Rattle.pg_shape.specs.Terms.{is_out, is_shared, is_owner, is_none_perm, is_read_perm, is_write_perm, same_forward, is_forward_of, is_write_owner, is_read_owner, cache_is, out, shared, forward_of, has_class, lists_state}
-use Rattle.pg_shape.specs.Terms as terms
-use Rattle.pg_shape.specs.Due.{same_kind, kind_is}
+use Rattle.pg_terms.specs.Terms.{is_out, is_shared, is_owner, is_none_perm, is_read_perm, is_write_perm, same_forward, is_forward_of, is_write_owner, is_read_owner, cache_is, out, shared, forward_of, has_class, lists_state}
+use Rattle.pg_terms.specs.Terms as terms
+use Rattle.pg_terms.specs.Due.{same_kind, kind_is}
 use Rattle.pg_shape.specs.TextRules.{has_kind, lacks_dirs, lacks_inv}
 use Rattle.pg_shape.specs.CacheRules.{has_wrong_perm, owners, is_one_too_many, is_needlessly_clean, is_listed, is_unlisted}
 use Rattle.pg_shape.specs.CacheRules as cache

@@ -9,8 +9,8 @@ use Rattle.pg_perm.specs.declared.kinds.FwdClass.TheVariants.{Inv}
 use Rattle.pg_perm.specs.declared.kinds.Event.TheVariants.{Load, Store, Evict}
 use Rattle.pg_perm.specs.declared.fault.Rule.{Rule}
 use Rattle.pg_perm.specs.declared.fault.Rule.TheVariants.{S1, S2, S3, S4, S8, S13}
-use Rattle.pg_shape.specs.Terms.{is_out, is_shared, is_owner, is_none_perm, is_read_perm, is, out, shared, forward_of, lists_state, lists, core_row, take_row}
-use Rattle.pg_shape.specs.Due.{forward_in, is_to_owner}
+use Rattle.pg_terms.specs.Terms.{is_out, is_shared, is_owner, is_none_perm, is_read_perm, is, out, shared, forward_of, lists_state, lists, core_row, take_row}
+use Rattle.pg_terms.specs.Due.{forward_in, is_to_owner}
 
 -- out without none, shared without read, or an owner with none
 abbrev pub has_wrong_perm : CacheLine → Bool

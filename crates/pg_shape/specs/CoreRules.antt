@@ -20,8 +20,8 @@ use Rattle.pg_perm.specs.declared.draft.ReplyName.{ReplyName}
 use Rattle.pg_perm.specs.declared.draft.ReplyName.TheVariants as reply
 use Rattle.pg_perm.specs.declared.fault.Rule.{Rule}
 use Rattle.pg_perm.specs.declared.fault.Rule.TheVariants.{S7, S9, S10, S11, S19}
-use Rattle.pg_shape.specs.Terms.{is_out, is_owner, is_none_perm, is_write_perm, same_event, is_request_of, is, is_other, is_write_owner, cache_is, shared, request_of, lists_state, core_row}
-use Rattle.pg_shape.specs.Due.{same_reply, is_load_reply, is_store_reply}
+use Rattle.pg_terms.specs.Terms.{is_out, is_owner, is_none_perm, is_write_perm, same_event, is_request_of, is, is_other, is_write_owner, cache_is, shared, request_of, lists_state, core_row}
+use Rattle.pg_terms.specs.Due.{same_reply, is_load_reply, is_store_reply}
 
 -- a permission allows an event: any but none allows a load, and write a store
 abbrev pub allows : Event → CacheLine → Bool

@@ -5,12 +5,12 @@ use Rattle.pg_perm.specs.declared.draft.Draft.{Draft}
 use Rattle.pg_perm.specs.declared.draft.DirLine.{DirLine}
 use Rattle.pg_perm.specs.declared.kinds.DirKind.{DirKind}
 use Rattle.pg_perm.specs.declared.kinds.DirKind.TheVariants as kind
-use Rattle.pg_shape.specs.declared.cases.DirCase.{DirCase}
-use Rattle.pg_shape.specs.declared.cases.DirCase.TheVariants as case
+use Rattle.pg_terms.specs.declared.cases.DirCase.{DirCase}
+use Rattle.pg_terms.specs.declared.cases.DirCase.TheVariants as case
 use Rattle.pg_perm.specs.declared.fault.Rule.{Rule}
 use Rattle.pg_perm.specs.declared.fault.Rule.TheVariants.{S4, S18}
-use Rattle.pg_shape.specs.Terms.{is_owner, is_write_owner, cache_is, shared, request_of, lists_state, dir_row}
-use Rattle.pg_shape.specs.Due.{same_kind, cases_at}
+use Rattle.pg_terms.specs.Terms.{is_owner, is_write_owner, cache_is, shared, request_of, lists_state, dir_row}
+use Rattle.pg_terms.specs.Due.{same_kind, cases_at}
 
 abbrev pub is_idle : DirLine → Bool
 is_idle l = same_kind kind.Idle l.kind

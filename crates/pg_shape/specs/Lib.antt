@@ -1,5 +1,3 @@
-pub mod Terms
-pub mod Due
 pub mod TextRules
 pub mod CacheRules
 pub mod DirRules

@@ -10,7 +10,7 @@ use Rattle.pg_perm.specs.declared.kinds.ReqClass.TheVariants.{Read, Write}
 use Rattle.pg_perm.specs.declared.kinds.FwdClass.TheVariants.{Inv}
 use Rattle.pg_perm.specs.declared.fault.Rule.{Rule}
 use Rattle.pg_perm.specs.declared.fault.Rule.TheVariants.{S5, S6}
-use Rattle.pg_shape.specs.Terms.{is_request_of, is_forward_of, shared}
+use Rattle.pg_terms.specs.Terms.{is_request_of, is_forward_of, shared}
 
 -- a message above it is a request of this class
 abbrev pub has_request : ReqClass → List MsgLine → Bool

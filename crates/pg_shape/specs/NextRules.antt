@@ -23,8 +23,8 @@ use Rattle.pg_perm.specs.declared.draft.RowForm.{RowForm}
 use Rattle.pg_perm.specs.declared.draft.RowForm.TheVariants as form
 use Rattle.pg_perm.specs.declared.draft.Action.{Action}
 use Rattle.pg_perm.specs.declared.draft.Action.TheVariants as action
-use Rattle.pg_shape.specs.Terms.{is_owner, is, is_read_owner, cache_is, out, shared, request_of, has_class, listed, lists, core_row, take_row, keep_of}
-use Rattle.pg_shape.specs.Due.{kind_is, same_reply}
+use Rattle.pg_terms.specs.Terms.{is_owner, is, is_read_owner, cache_is, out, shared, request_of, has_class, listed, lists, core_row, take_row, keep_of}
+use Rattle.pg_terms.specs.Due.{kind_is, same_reply}
 
 -- what isn't there passes
 abbrev pub passes : (ℕ → Bool) → Option ℕ → Bool

@@ -15,8 +15,8 @@ use Rattle.pg_perm.specs.declared.draft.Action.{Action}
 use Rattle.pg_perm.specs.declared.draft.Action.TheVariants as action
 use Rattle.pg_perm.specs.declared.fault.Rule.{Rule}
 use Rattle.pg_perm.specs.declared.fault.Rule.TheVariants.{S9, S15, S16, S17}
-use Rattle.pg_shape.specs.Terms.{same_who, same_left, is, request_of, has_class, is_case}
-use Rattle.pg_shape.specs.Due.{kind_is, cases_at}
+use Rattle.pg_terms.specs.Terms.{same_who, same_left, is, request_of, has_class, is_case}
+use Rattle.pg_terms.specs.Due.{kind_is, cases_at}
 use Rattle.pg_shape.specs.NextRules.{leads_rightly}
 
 -- two row lines of one directory state are for the same: they have the same third and fourth words and, for evicts, the same fifth

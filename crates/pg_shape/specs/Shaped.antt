@@ -27,10 +27,10 @@ use Rattle.pg_perm.specs.declared.draft.RowForm.{RowForm}
 use Rattle.pg_perm.specs.declared.draft.RowForm.TheVariants as form
 use Rattle.pg_perm.specs.declared.draft.Action.{Action}
 use Rattle.pg_perm.specs.declared.draft.Action.TheVariants as action
-use Rattle.pg_shape.specs.declared.cases.DirCase.{DirCase}
-use Rattle.pg_shape.specs.declared.cases.DirCase.TheVariants as case
-use Rattle.pg_shape.specs.Terms.{is_out, is_shared, is_owner, is_none_perm, is_read_perm, is_read_owner, is_write_owner, cache_is, out, shared, request_of, forward_of, has_class, lists, core_row, take_row, dir_row, keep_of}
-use Rattle.pg_shape.specs.Due.{kind_is, forward_in, is_to_owner, is_due, is_due_case, is_load_reply, is_store_reply}
+use Rattle.pg_terms.specs.declared.cases.DirCase.{DirCase}
+use Rattle.pg_terms.specs.declared.cases.DirCase.TheVariants as case
+use Rattle.pg_terms.specs.Terms.{is_out, is_shared, is_owner, is_none_perm, is_read_perm, is_read_owner, is_write_owner, cache_is, out, shared, request_of, forward_of, has_class, lists, core_row, take_row, dir_row, keep_of}
+use Rattle.pg_terms.specs.Due.{kind_is, forward_in, is_to_owner, is_due, is_due_case, is_load_reply, is_store_reply}
 use Rattle.pg_shape.specs.DirRules.{has_no_owner}
 use Rattle.pg_shape.specs.CoreRules.{allows, is_hit, is_dirty_writer, stays, store_next, asks_class, is_from_cache}
 use Rattle.pg_shape.specs.TakeRules.{may_keep}

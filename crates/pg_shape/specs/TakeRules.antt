@@ -7,8 +7,8 @@ use Rattle.pg_perm.specs.declared.draft.TakeLine.{TakeLine}
 use Rattle.pg_perm.specs.declared.kinds.FwdClass.TheVariants.{Inv, Share, Keep, Drop}
 use Rattle.pg_perm.specs.declared.fault.Rule.{Rule}
 use Rattle.pg_perm.specs.declared.fault.Rule.TheVariants.{S9, S12, S14}
-use Rattle.pg_shape.specs.Terms.{is, is_other, is_read_owner, cache_is, out, shared, forward_of, has_class, keep_of}
-use Rattle.pg_shape.specs.Due.{is_due}
+use Rattle.pg_terms.specs.Terms.{is, is_other, is_read_owner, cache_is, out, shared, forward_of, has_class, keep_of}
+use Rattle.pg_terms.specs.Due.{is_due}
 
 -- a take line above it is for the same state and forward
 abbrev pub has_take_line : List TakeLine → TakeLine → Bool

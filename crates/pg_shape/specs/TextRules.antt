@@ -8,8 +8,8 @@ use Rattle.pg_perm.specs.declared.kinds.DirKind.{DirKind}
 use Rattle.pg_perm.specs.declared.kinds.DirKind.TheVariants as kind
 use Rattle.pg_perm.specs.declared.fault.Rule.{Rule}
 use Rattle.pg_perm.specs.declared.fault.Rule.TheVariants.{S2, S4, S5, S6}
-use Rattle.pg_shape.specs.Terms.{is_write_owner, out, shared, request_of, forward_of}
-use Rattle.pg_shape.specs.Due.{same_kind}
+use Rattle.pg_terms.specs.Terms.{is_write_owner, out, shared, request_of, forward_of}
+use Rattle.pg_terms.specs.Due.{same_kind}
 
 -- there is no out state, or no owner that may write
 abbrev pub lacks_states : Draft → Bool

@@ -1,11 +1,11 @@
 ghost use Rattle.std.specs.Prelude.{◌≡◌, ◌≤◌, length};
 ghost use Rattle.std.specs.List.{list_any};
-ghost use Rattle.pg_shape.specs.Terms as term;
+ghost use Rattle.pg_terms.specs.Terms as term;
 ghost use Rattle.pg_shape.specs.CacheRules as cache;
 ghost use Rattle.pg_shape.specs.FirstFaults.{first_rule};
 
-use crate::due::{forward_in, is_to_owner};
-use crate::terms::{
+use pg_terms::{forward_in, is_to_owner};
+use pg_terms::{
     core_row, forward_of, is, is_out, is_owner, is_shared, lists, lists_state, out, shared,
     take_row,
 };

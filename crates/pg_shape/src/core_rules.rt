@@ -1,11 +1,11 @@
 ghost use Rattle.std.specs.Prelude.{◌≡◌, ◌≤◌, length, not};
 ghost use Rattle.std.specs.List.{list_any};
-ghost use Rattle.pg_shape.specs.Terms as term;
+ghost use Rattle.pg_terms.specs.Terms as term;
 ghost use Rattle.pg_shape.specs.CoreRules as rule;
 ghost use Rattle.pg_shape.specs.FirstFaults.{first_rule};
 
-use crate::due::{is_load_reply, is_reply, is_store_reply};
-use crate::terms::{
+use pg_terms::{is_load_reply, is_reply, is_store_reply};
+use pg_terms::{
     core_row, is, is_clean_state, is_other, is_out, is_owner_state, is_request_of, is_write_owner,
     is_write_owner_state, lists_state, request_of, shared,
 };

@@ -1,12 +1,12 @@
 ghost use Rattle.std.specs.Prelude.{◌≡◌, ◌≤◌, length};
 ghost use Rattle.std.specs.List.{list_any};
-ghost use Rattle.pg_shape.specs.Terms as term;
+ghost use Rattle.pg_terms.specs.Terms as term;
 ghost use Rattle.pg_shape.specs.DirRules as rule;
 ghost use Rattle.pg_shape.specs.FirstFaults.{first_rule};
 
-use crate::cases::DirCase;
-use crate::due::cases_at;
-use crate::terms::{
+use pg_terms::DirCase;
+use pg_terms::cases_at;
+use pg_terms::{
     dir_row, is_owner_state, is_write_owner_state, lists_state, request_of, shared,
 };
 use pg_perm::{DirKind, DirLine, Draft, Rule};

@@ -5,7 +5,7 @@ ghost use Rattle.pg_perm.specs.declared.draft.Draft.{Draft};
 ghost use Rattle.pg_perm.specs.declared.fault.Fault.{Fault};
 ghost use Rattle.pg_perm.specs.Drafts.{IsWellFormed};
 ghost use Rattle.pg_shape.specs.ShapeFaults.{HasShape, IsShapeFault};
-ghost use Rattle.pg_shape.specs.Terms.{out};
+ghost use Rattle.pg_terms.specs.Terms.{out};
 ghost use Rattle.pg_shape.specs.Shaped.{HasLists, HasTakes, HasRows, HasReads, HasWrites, HasEvicts};
 ghost use Rattle.pg_shape.specs.FirstFaults.{shape_fault};
 

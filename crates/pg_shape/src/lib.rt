@@ -4,10 +4,8 @@
 #![tactic(auto)]
 
 mod cache_rules;
-mod cases;
 mod core_rules;
 mod dir_rules;
-mod due;
 mod error;
 mod faults;
 mod laws;
@@ -16,10 +14,9 @@ mod next_rules;
 mod protocol;
 mod row_rules;
 mod take_rules;
-mod terms;
 mod text_rules;
 
-pub use cases::DirCase;
+pub use pg_terms::DirCase;
 pub use error::ShapeError;
 pub use laws::first_fault_is_exact;
 pub use laws::scratch_law;

@@ -1,10 +1,10 @@
 ghost use Rattle.std.specs.Prelude.{◌≡◌, ◌≤◌, length};
 ghost use Rattle.std.specs.List.{list_any};
-ghost use Rattle.pg_shape.specs.Terms as term;
+ghost use Rattle.pg_terms.specs.Terms as term;
 ghost use Rattle.pg_shape.specs.MessageRules as rule;
 ghost use Rattle.pg_shape.specs.FirstFaults.{first_rule};
 
-use crate::terms::{is_forward_of, is_request_of, shared};
+use pg_terms::{is_forward_of, is_request_of, shared};
 use pg_perm::{Draft, FwdClass, MsgClass, MsgLine, ReqClass, Rule};
 
 fn has_request(class: ReqClass, above: &[MsgLine]) -> bool

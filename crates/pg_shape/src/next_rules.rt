@@ -2,8 +2,8 @@ ghost use Rattle.std.specs.Prelude.{◌≡◌};
 ghost use Rattle.std.specs.Option.{option_copied};
 ghost use Rattle.pg_shape.specs.NextRules as rule;
 
-use crate::due::kind_is;
-use crate::terms::{
+use pg_terms::kind_is;
+use pg_terms::{
     core_row, has_class, is, is_owner_state, is_read_owner_state, keep_of, listed, lists, out,
     request_of, shared, take_row,
 };

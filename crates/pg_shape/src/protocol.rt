@@ -4,17 +4,17 @@ ghost use Rattle.std.specs.Option.{option_copied};
 ghost use Rattle.pg_perm.specs.declared.kinds.Event.TheVariants.{Evict};
 ghost use Rattle.pg_perm.specs.declared.fault.Fault.{Fault};
 ghost use Rattle.pg_perm.specs.Drafts.{IsWellFormed};
-ghost use Rattle.pg_shape.specs.Terms as term;
-ghost use Rattle.pg_shape.specs.Due as due;
+ghost use Rattle.pg_terms.specs.Terms as term;
+ghost use Rattle.pg_terms.specs.Due as due;
 ghost use Rattle.pg_shape.specs.ShapeFaults.{HasShape, IsShapeFault, IsProtocol};
 ghost use Rattle.pg_shape.specs.FirstFaults as first;
 ghost use Rattle.pg_shape.specs.Answers.{Judges};
 
-use crate::cases::DirCase;
-use crate::due::is_due;
+use pg_terms::DirCase;
+use pg_terms::is_due;
 use crate::error::ShapeError;
 use crate::faults::shape_fault;
-use crate::terms;
+use pg_terms as terms;
 use pg_perm::{CoreLine, Draft, Event, Perm, RowLine, TakeLine};
 use std::marker::Model;
 

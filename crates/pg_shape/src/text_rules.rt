@@ -1,10 +1,10 @@
 ghost use Rattle.std.specs.Prelude.{◌≡◌};
 ghost use Rattle.std.specs.List.{list_any};
-ghost use Rattle.pg_shape.specs.Terms as term;
+ghost use Rattle.pg_terms.specs.Terms as term;
 ghost use Rattle.pg_shape.specs.TextRules as text;
 ghost use Rattle.pg_shape.specs.FirstFaults.{first_rule};
 
-use crate::terms::{forward_of, is_write_owner, out, request_of, shared};
+use pg_terms::{forward_of, is_write_owner, out, request_of, shared};
 use pg_perm::{DirKind, Draft, FwdClass, ReqClass, Rule};
 
 fn has_write_owner(draft: &Draft) -> bool

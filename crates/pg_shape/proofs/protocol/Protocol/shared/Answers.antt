@@ -1,7 +1,7 @@
 use Rattle.std.proofs.Common.{◌≡◌, ℕ, false, Option, Some, None, sym, ◌∙◌}
 use Rattle.std.specs.List.{list_any}
 use Rattle.pg_perm.specs.declared.draft.Draft.{Draft}
-use Rattle.pg_shape.specs.Terms.{is_shared, shared}
+use Rattle.pg_terms.specs.Terms.{is_shared, shared}
 use Rattle.pg_shape.proofs.Searches.{position_none, none_position}
 use Rattle.pg_shape.proofs.protocol.Protocol.shared.Goals as goal
 

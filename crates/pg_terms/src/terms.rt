@@ -1,6 +1,6 @@
 ghost use Rattle.std.specs.Prelude.{◌≡◌};
 ghost use Rattle.std.specs.Option.{option_copied};
-ghost use Rattle.pg_shape.specs.Terms as term;
+ghost use Rattle.pg_terms.specs.Terms as term;
 
 use crate::cases::DirCase;
 use pg_perm::{

@@ -26,8 +26,8 @@ use Rattle.pg_perm.specs.declared.draft.TakeLine.{TakeLine}
 use Rattle.pg_perm.specs.declared.draft.RowLine.{RowLine}
 use Rattle.pg_perm.specs.declared.draft.RowForm.{RowForm}
 use Rattle.pg_perm.specs.declared.draft.RowForm.TheVariants as form
-use Rattle.pg_shape.specs.declared.cases.DirCase.{DirCase}
-use Rattle.pg_shape.specs.declared.cases.DirCase.TheVariants as case
+use Rattle.pg_terms.specs.declared.cases.DirCase.{DirCase}
+use Rattle.pg_terms.specs.declared.cases.DirCase.TheVariants as case
 
 -- Roles, permissions, kinds and classes
 

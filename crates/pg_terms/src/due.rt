@@ -1,7 +1,7 @@
 ghost use Rattle.std.specs.Prelude.{◌≡◌};
 ghost use Rattle.std.specs.List.{list_any};
-ghost use Rattle.pg_shape.specs.Due as due;
-ghost use Rattle.pg_shape.specs.Terms as term;
+ghost use Rattle.pg_terms.specs.Due as due;
+ghost use Rattle.pg_terms.specs.Terms as term;
 
 use crate::cases::DirCase;
 use crate::terms::{

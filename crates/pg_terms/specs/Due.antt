@@ -19,9 +19,9 @@ use Rattle.pg_perm.specs.declared.draft.Action.{Action}
 use Rattle.pg_perm.specs.declared.draft.Action.TheVariants as action
 use Rattle.pg_perm.specs.declared.draft.ReplyName.{ReplyName}
 use Rattle.pg_perm.specs.declared.draft.ReplyName.TheVariants as reply
-use Rattle.pg_shape.specs.declared.cases.DirCase.{DirCase}
-use Rattle.pg_shape.specs.declared.cases.DirCase.TheVariants as case
-use Rattle.pg_shape.specs.Terms.{is_owner, same_who, same_left, same_request, is, is_read_owner, cache_is, shared, request_of, forward_of, has_class, lists}
+use Rattle.pg_terms.specs.declared.cases.DirCase.{DirCase}
+use Rattle.pg_terms.specs.declared.cases.DirCase.TheVariants as case
+use Rattle.pg_terms.specs.Terms.{is_owner, same_who, same_left, same_request, is, is_read_owner, cache_is, shared, request_of, forward_of, has_class, lists}
 
 abbrev pub same_kind : DirKind → DirKind → Bool
 same_kind kind.Idle kind.Idle = true
