@@ -5,3 +5,4 @@ pub mod Exact
 pub mod Bools
 pub mod Searches
 pub mod Shaped
+pub mod Cores
