@@ -13,9 +13,7 @@ use Rattle.pg_perm.specs.declared.kinds.Perm.TheVariants as perm
 use Rattle.pg_perm.specs.declared.kinds.Event.{Event}
 use Rattle.pg_perm.specs.declared.kinds.Event.TheVariants.{Load, Store, Evict}
 use Rattle.pg_perm.specs.declared.kinds.Who.TheVariants.{Other, Sharer}
-use Rattle.pg_perm.specs.declared.kinds.ReqClass.{ReqClass}
 use Rattle.pg_perm.specs.declared.kinds.ReqClass.TheVariants.{Read, Write, Clean, Dirty}
-use Rattle.pg_perm.specs.declared.draft.MsgClass.{MsgClass}
 use Rattle.pg_perm.specs.declared.draft.Draft.{Draft}
 use Rattle.pg_perm.specs.declared.draft.CacheLine.{CacheLine}
 use Rattle.pg_perm.specs.declared.draft.DirLine.{DirLine}
@@ -29,16 +27,15 @@ use Rattle.pg_perm.specs.declared.draft.TakeLine.{TakeLine}
 use Rattle.pg_perm.specs.declared.draft.RowLine.{RowLine}
 use Rattle.pg_perm.specs.declared.draft.RowForm.{RowForm}
 use Rattle.pg_perm.specs.declared.draft.RowForm.TheVariants as form
-use Rattle.pg_perm.specs.declared.draft.Action.{Action}
 use Rattle.pg_perm.specs.declared.draft.Action.TheVariants as action
 use Rattle.pg_perm.specs.declared.fault.Rule.TheVariants.{S1, S5, S7, S10, S11, S19}
 use Rattle.pg_perm.specs.Classes.{is_request, is_forward, is_reply}
-use Rattle.pg_perm.specs.Drafts.{has_numbers, has_cache, has_dir, has_message, has_core_form, has_core, has_take, has_action, has_row_form, has_row, IsWellFormed}
-use Rattle.pg_shape.specs.Terms.{is_out, is_shared, is_owner, is_none_perm, is_read_perm, is_write_perm, same_event, is, is_other, is_write_owner, is_read_owner, cache_is, out, shared, request_of, listed, lists_state, lists, core_row}
-use Rattle.pg_shape.specs.Due.{same_reply, is_row_for, is_row_from, is_answer, brings, row_brings, is_load_reply, is_store_reply}
+use Rattle.pg_perm.specs.Drafts.{has_cache, has_dir, has_message, has_core_form, has_core, has_take, has_row_form, has_row, IsWellFormed}
+use Rattle.pg_shape.specs.Terms.{is_out, is_shared, is_owner, is_none_perm, is_read_perm, is_write_perm, same_event, is, is_other, is_write_owner, is_read_owner, cache_is, out, shared, request_of, lists_state, lists, core_row}
+use Rattle.pg_shape.specs.Due.{same_reply, is_row_for, is_row_from, is_answer, row_brings, is_load_reply, is_store_reply}
 use Rattle.pg_shape.specs.TextRules.{lacks_requests}
 use Rattle.pg_shape.specs.CacheRules.{has_wrong_perm}
-use Rattle.pg_shape.specs.CoreRules.{allows, is_hit, leaves_out, asks_needlessly, hits_without_perm, moves_at_load, class_of, asks_otherwise, is_asked, names, names_twice, names_another, misses, misses_below, misses_reply, names_wrongly, has_wrong_replies, is_no_load_final, is_dirty_writer, stays, moves_at_store, is_no_store_final, ends_otherwise, ends_differ, ends_wrongly, breaks_s7, store_next, parts, asks_class, leaves_by_another, leaves_wrongly, is_from_cache, is_unclean, ends_unclean}
+use Rattle.pg_shape.specs.CoreRules.{allows, is_hit, leaves_out, asks_needlessly, hits_without_perm, moves_at_load, class_of, asks_otherwise, is_asked, names, names_twice, names_another, misses, misses_below, misses_reply, names_wrongly, has_wrong_replies, is_no_load_final, is_dirty_writer, stays, moves_at_store, is_no_store_final, ends_differ, ends_wrongly, breaks_s7, store_next, parts, asks_class, leaves_by_another, leaves_wrongly, is_from_cache, is_unclean, ends_unclean}
 use Rattle.pg_shape.specs.NextRules.{pair_under, final_under}
 use Rattle.pg_shape.specs.ShapeFaults.{HasShape}
 use Rattle.pg_shape.specs.Shaped.{HasCores}
@@ -356,3 +353,182 @@ load_ends_clean d s t name (Ask request pairs) keeps e clean =
     subst (λ (n : ReplyName). is_from_cache d n ≡ false) (reply_equal p.reply name same)
     (and_not (cache_is (λ c. c.clean) d p.fin) (is_from_cache d p.reply) right there)
 
+-- What a core does in its own state
+
+-- with the permission it is done
+is_done : (d : Draft) (s : ℕ) (event : Event) (c : CacheLine) (form : CoreForm) → Keeps d s event form → slice_get d.caches s ≡ Some c
+    → allows event c ≡ true → is_hit form ≡ true
+is_done d s event c form keeps e may =
+    not_false (is_hit form) (and_not (cache_is (allows event) d s) (not (is_hit form)) keeps.done (at_cache (allows event) d s c e ∙ may))
+
+-- a load hit stays
+load_hit_stays : (d : Draft) (s : ℕ) (form : CoreForm) → Keeps d s Load form → is_hit form ≡ true → form ≡ Hit None
+load_hit_stays d s (Hit None) keeps h = refl
+load_hit_stays d s (Hit (Some next)) keeps h = absurd (not_both true refl keeps.rests)
+load_hit_stays d s (Ask request pairs) keeps h = absurd cc
+load_hit_stays d s (Leave request) keeps h = absurd cc
+
+-- states that a directory state doesn't tell apart
+not_parted : (a b : Bool) → ((a && not b) || (not a && b)) ≡ false → b ≡ a
+not_parted true true h = refl
+not_parted true false h = absurd cc
+not_parted false true h = absurd cc
+not_parted false false h = refl
+
+same_lists : (d : Draft) (s t : ℕ) → list_any (parts s t) d.dirs ≡ false → (n : ℕ) → lists d n t ≡ lists d n s
+same_lists d s t none n = at (slice_get d.dirs n) refl
+  where
+    at : (o : Option DirLine) → slice_get d.dirs n ≡ o
+        → lists_state (option_map_or (λ l. l.beside) o []) t ≡ lists_state (option_map_or (λ l. l.beside) o []) s
+    at None e = refl
+    at (Some l) e = not_parted (lists_state l.beside s) (lists_state l.beside t) (any_not (parts s t) d.dirs n l none e)
+
+-- a store hit of an owner that may write leads to one that isn't clean, and that the directory doesn't tell apart
+store_hit_ends : (d : Draft) (s t : ℕ) (form : CoreForm) → Keeps d s Store form → cache_is is_write_owner d s ≡ true → store_next s Store form ≡ Some t
+    → (cache_is is_dirty_writer d t ≡ true) × ((n : ℕ) → lists d n t ≡ lists d n s)
+store_hit_ends d s t form keeps writer e =
+    let here : (cache_is is_write_owner d s && (not (cache_is is_dirty_writer d t) || list_any (parts s t) d.dirs)) ≡ false =
+    subst (λ o. option_map_or (λ t. cache_is is_write_owner d s && (not (cache_is is_dirty_writer d t) || list_any (parts s t) d.dirs)) o false ≡ false) e keeps.hits in
+    let none = or_parts (not (cache_is is_dirty_writer d t)) (list_any (parts s t) d.dirs)
+    (and_not (cache_is is_write_owner d s) (not (cache_is is_dirty_writer d t) || list_any (parts s t) d.dirs) here writer) in
+    (not_false (cache_is is_dirty_writer d t) none.0, same_lists d s t none.1)
+
+-- an evict gives the copy up
+evict_leaves : (d : Draft) (s : ℕ) (form : CoreForm) → Keeps d s Evict form → (m : ℕ) × (form ≡ Leave m)
+evict_leaves d s (Hit next) keeps = absurd (not_both false keeps.formed refl)
+evict_leaves d s (Ask request pairs) keeps = absurd (not_both false keeps.formed refl)
+evict_leaves d s (Leave m) keeps = (m, refl)
+
+-- and by a request that its state may
+leaves_right : (d : Draft) (s m : ℕ) (event : Event) (c : CacheLine) (form : CoreForm) → Keeps d s event form → slice_get d.caches s ≡ Some c → form ≡ Leave m
+    → leaves_by_another d c.role c.clean m ≡ false
+leaves_right d s m event c form keeps e leaves =
+    let here : leaves_wrongly d s (Leave m) ≡ false = subst (λ (f : CoreForm). leaves_wrongly d s f ≡ false) leaves keeps.leaves in
+    sym (at_cache (λ c. leaves_by_another d c.role c.clean m) d s c e) ∙ here
+
+-- Roles and permissions
+
+role_out : (r : Role) → is_out r ≡ true → r ≡ role.Out
+role_out role.Out h = refl
+role_out role.Shared h = absurd cc
+role_out role.Owner h = absurd cc
+
+role_shared : (r : Role) → is_shared r ≡ true → r ≡ role.Shared
+role_shared role.Out h = absurd cc
+role_shared role.Shared h = refl
+role_shared role.Owner h = absurd cc
+
+role_owner : (r : Role) → is_owner r ≡ true → r ≡ role.Owner
+role_owner role.Out h = absurd cc
+role_owner role.Shared h = absurd cc
+role_owner role.Owner h = refl
+
+none_writes_not : (p : Perm) → is_none_perm p ≡ true → is_write_perm p ≡ false
+none_writes_not perm.None h = refl
+none_writes_not perm.Read h = absurd cc
+none_writes_not perm.Write h = absurd cc
+
+read_writes_not : (p : Perm) → is_read_perm p ≡ true → is_write_perm p ≡ false
+read_writes_not perm.None h = absurd cc
+read_writes_not perm.Read h = refl
+read_writes_not perm.Write h = absurd cc
+
+-- the out state is out, and has no permission
+out_line : (d : Draft) → HasShape d → (s : ℕ) → out d ≡ Some s → (c : CacheLine) × (slice_get d.caches s ≡ Some c) × (c.role ≡ role.Out) × (is_none_perm c.perm ≡ true)
+out_line d h s e =
+    let (c, g, is_so) = (position_get (λ c. is_out c.role) d.caches s e).1 in
+    let kept : has_wrong_perm c ≡ false = cache_keeps d h s c g S1 in
+    let none = three_not (is_out c.role && not (is_none_perm c.perm)) (is_shared c.role && not (is_read_perm c.perm)) (is_owner c.role && is_none_perm c.perm) kept in
+    (c, g, role_out c.role is_so, not_false (is_none_perm c.perm) (and_not (is_out c.role) (not (is_none_perm c.perm)) none.0 is_so))
+
+-- the shared state is shared, and may read
+shared_line : (d : Draft) → HasShape d → (s : ℕ) → shared d ≡ Some s → (c : CacheLine) × (slice_get d.caches s ≡ Some c) × (c.role ≡ role.Shared) × (is_read_perm c.perm ≡ true)
+shared_line d h s e =
+    let (c, g, is_so) = (position_get (λ c. is_shared c.role) d.caches s e).1 in
+    let kept : has_wrong_perm c ≡ false = cache_keeps d h s c g S1 in
+    let none = three_not (is_out c.role && not (is_none_perm c.perm)) (is_shared c.role && not (is_read_perm c.perm)) (is_owner c.role && is_none_perm c.perm) kept in
+    (c, g, role_shared c.role is_so, not_false (is_read_perm c.perm) (and_not (is_shared c.role) (not (is_read_perm c.perm)) none.1 is_so))
+
+-- The facts
+
+row : (d : Draft) → HasShape d → (s : ℕ) (event : Event) (c : CacheLine) → slice_get d.caches s ≡ Some c → (event ≡ Evict → is_out c.role ≡ false)
+    → (x : CoreLine) × (core_row d s event ≡ Some x)
+row d h s event c e leaves = has_core_row d h s event (slice_get_within d.caches s c e) (λ at. not_true (is (out d) s) (λ out. no_out (leaves at) out))
+  where
+    no_out : is_out c.role ≡ false → is (out d) s ≡ true → ⊥
+    no_out other at_out =
+        let (x, g, is_so) = (position_get (λ c. is_out c.role) d.caches s (is_one (out d) s at_out)).1 in
+        let same : x ≡ c = same_Some x c (sym g ∙ e) in
+        not_both (is_out c.role) (subst (λ (l : CacheLine). is_out l.role ≡ true) same is_so) other
+
+load_reply : (d : Draft) → IsWellFormed d → HasShape d → (s m : ℕ) (x : CoreLine) → out d ≡ Some s → core_row d s Load ≡ Some x → is_load_reply d m ≡ true
+    → (t : ℕ) × (final_under (reply.Reply m) x.form ≡ Some t)
+load_reply d w h s m x at_out e asked =
+    let (c, g, is_so, none) = out_line d h s at_out in
+    asked_final d w h s Load c x.form (reply.Reply m) (core_row_keeps d w h s Load x e) refl g (ap not none) asked
+
+store_reply_out : (d : Draft) → IsWellFormed d → HasShape d → (s m : ℕ) (x : CoreLine) → out d ≡ Some s → core_row d s Store ≡ Some x → is_store_reply d Other m ≡ true
+    → (t : ℕ) × (final_under (reply.Reply m) x.form ≡ Some t)
+store_reply_out d w h s m x at_out e asked =
+    let (c, g, is_so, none) = out_line d h s at_out in
+    let asks_it : is_asked d c.role Store (reply.Reply m) ≡ true = subst (λ (r : Role). is_asked d r Store (reply.Reply m) ≡ true) (sym is_so) asked in
+    asked_final d w h s Store c x.form (reply.Reply m) (core_row_keeps d w h s Store x e) refl g (none_writes_not c.perm none) asks_it
+
+store_reply_shared : (d : Draft) → IsWellFormed d → HasShape d → (s m : ℕ) (x : CoreLine) → shared d ≡ Some s → core_row d s Store ≡ Some x
+    → is_store_reply d Sharer m ≡ true → (t : ℕ) × (final_under (reply.Reply m) x.form ≡ Some t)
+store_reply_shared d w h s m x at_shared e asked =
+    let (c, g, is_so, reads) = shared_line d h s at_shared in
+    let asks_it : is_asked d c.role Store (reply.Reply m) ≡ true = subst (λ (r : Role). is_asked d r Store (reply.Reply m) ≡ true) (sym is_so) asked in
+    asked_final d w h s Store c x.form (reply.Reply m) (core_row_keeps d w h s Store x e) refl g (read_writes_not c.perm reads) asks_it
+
+store_count : (d : Draft) → IsWellFormed d → HasShape d → (s : ℕ) (x : CoreLine) → cache_is is_read_owner d s ≡ true → core_row d s Store ≡ Some x
+    → (t : ℕ) × (final_under reply.AckCount x.form ≡ Some t)
+store_count d w h s x reader e =
+    let (c, g, owns) = map_or_get is_read_owner (slice_get d.caches s) reader in
+    let (is_so, reads) = both (is_owner c.role) (is_read_perm c.perm) owns in
+    let asks_it : is_asked d c.role Store reply.AckCount ≡ true =
+    subst (λ (r : Role). is_asked d r Store reply.AckCount ≡ true) (sym (role_owner c.role is_so)) refl in
+    asked_final d w h s Store c x.form reply.AckCount (core_row_keeps d w h s Store x e) refl g (read_writes_not c.perm reads) asks_it
+
+evict_shared : (d : Draft) → IsWellFormed d → HasShape d → (s m : ℕ) (x : CoreLine) → shared d ≡ Some s → core_row d s Evict ≡ Some x → x.form ≡ Leave m
+    → asks_class Clean d m ≡ true
+evict_shared d w h s m x at_shared e leaves =
+    let (c, g, is_so, reads) = shared_line d h s at_shared in
+    let right = leaves_right d s m Evict c x.form (core_row_keeps d w h s Evict x e) g leaves in
+    not_false (asks_class Clean d m) (subst (λ (r : Role). leaves_by_another d r c.clean m ≡ false) is_so right)
+
+evict_dirty : (d : Draft) → IsWellFormed d → HasShape d → (s m : ℕ) (x : CoreLine) (c : CacheLine) → slice_get d.caches s ≡ Some c → is_owner c.role ≡ true
+    → c.clean ≡ false → core_row d s Evict ≡ Some x → x.form ≡ Leave m → asks_class Dirty d m ≡ true
+evict_dirty d w h s m x c g owns unclean e leaves =
+    let right = leaves_right d s m Evict c x.form (core_row_keeps d w h s Evict x e) g leaves in
+    let owner : leaves_by_another d role.Owner c.clean m ≡ false = subst (λ (r : Role). leaves_by_another d r c.clean m ≡ false) (role_owner c.role owns) right in
+    let here : leaves_by_another d role.Owner false m ≡ false = subst (λ (b : Bool). leaves_by_another d role.Owner b m ≡ false) unclean owner in
+    or_nothing (asks_class Dirty d m) (not_false (asks_class Dirty d m || false) here)
+  where
+    or_nothing : (b : Bool) → (b || false) ≡ true → b ≡ true
+    or_nothing true h = refl
+    or_nothing false h = h
+
+-- what a core does
+pub cores : (d : Draft) → IsWellFormed d → HasShape d → HasCores d
+cores d w h =
+    let keeps = core_row_keeps d w h in
+    record {
+      row = row d h;
+      hits = λ s event c x at e may. is_done d s event c x.form (keeps s event x e) at may;
+      load_hit = λ s x e hit. load_hit_stays d s x.form (keeps s Load x e) hit;
+      store_hit = λ s t x e writer next. store_hit_ends d s t x.form (keeps s Store x e) writer next;
+      load = λ s x c at e lacks. asks d h s Load c x.form (keeps s Load x e) refl at lacks;
+      load_reply = load_reply d w h;
+      load_final = λ s t name x e final. load_ends d s t name x.form (keeps s Load x e) final;
+      store = λ s x c at e lacks. asks d h s Store c x.form (keeps s Store x e) refl at lacks;
+      store_reply_out = store_reply_out d w h;
+      store_reply_shared = store_reply_shared d w h;
+      store_count = store_count d w h;
+      store_final = λ s t name x e final. store_ends d s t name x.form (keeps s Store x e) final;
+      one_final = λ s t u a b x e one other. store_ends_once d s t u a b x.form (keeps s Store x e) one other;
+      evict = λ s x e. evict_leaves d s x.form (keeps s Evict x e);
+      evict_shared = evict_shared d w h;
+      evict_dirty = evict_dirty d w h;
+      clean_final = λ s t name x e final clean. load_ends_clean d s t name x.form (keeps s Load x e) final clean;
+    }
