@@ -12,6 +12,7 @@ use Rattle.pg_perm.specs.declared.kinds.Perm.{Perm}
 use Rattle.pg_perm.specs.declared.kinds.Perm.TheVariants as perm
 use Rattle.pg_perm.specs.declared.kinds.Event.{Event}
 use Rattle.pg_perm.specs.declared.kinds.Event.TheVariants.{Load, Store, Evict}
+use Rattle.pg_perm.specs.declared.kinds.Who.{Who}
 use Rattle.pg_perm.specs.declared.kinds.Who.TheVariants.{Other, Sharer}
 use Rattle.pg_perm.specs.declared.kinds.ReqClass.TheVariants.{Read, Write, Clean, Dirty}
 use Rattle.pg_perm.specs.declared.draft.Draft.{Draft}
@@ -45,12 +46,14 @@ use Rattle.pg_shape.proofs.Shaped.{text_keeps, cache_keeps, core_keeps, has_core
 
 -- Tests, lists and options
 
+-- all of four are so
 four_and : (a b c d : Bool) → (a && b && c && d) ≡ true → (a ≡ true) × (b ≡ true) × (c ≡ true) × (d ≡ true)
 four_and true true true d h = (refl, refl, refl, h)
 four_and true true false d h = absurd cc
 four_and true false c d h = absurd cc
 four_and false b c d h = absurd cc
 
+-- none of seven is so
 seven_not : (a b c d e f g : Bool) → (a || b || c || d || e || f || g) ≡ false
     → (a ≡ false) × (b ≡ false) × (c ≡ false) × (d ≡ false) × (e ≡ false) × (f ≡ false) × (g ≡ false)
 seven_not false false false false false false g h = (refl, refl, refl, refl, refl, refl, h)
@@ -84,9 +87,11 @@ at_cache test d s c e = ap (λ (o : Option CacheLine). option_map_or test o fals
 -- Well-formed drafts
 
 -- what core, take and row lines name is declared
-all_formed : (d : Draft) → IsWellFormed d → (list_all (has_core d) d.cores ≡ true) × (list_all (has_take d) d.takes ≡ true) × (list_all (has_row d) d.rows ≡ true)
+all_formed : (d : Draft) → IsWellFormed d
+    → (list_all (has_core d) d.cores ≡ true) × (list_all (has_take d) d.takes ≡ true) × (list_all (has_row d) d.rows ≡ true)
 all_formed d w =
-    let (dirs, cores, takes, rows) = four_and _ (list_all (has_core d) d.cores) (list_all (has_take d) d.takes) (list_all (has_row d) d.rows) w.numbers in
+    let (dirs, cores, takes, rows) =
+    four_and _ (list_all (has_core d) d.cores) (list_all (has_take d) d.takes) (list_all (has_row d) d.rows) w.numbers in
     (cores, takes, rows)
 
 -- a core line is in the form of its event
@@ -96,10 +101,12 @@ core_formed d w k x e =
     (both (has_cache d x.state) (has_core_form d x.event x.form) formed).1
 
 -- the reply of a take line is one
-take_formed : (d : Draft) → IsWellFormed d → (k : ℕ) (t : TakeLine) → slice_get d.takes k ≡ Some t → option_map_or (has_message is_reply d) t.reply true ≡ true
+take_formed : (d : Draft) → IsWellFormed d → (k : ℕ) (t : TakeLine) → slice_get d.takes k ≡ Some t
+    → option_map_or (has_message is_reply d) t.reply true ≡ true
 take_formed d w k t e =
     let formed : has_take d t ≡ true = all_at (has_take d) d.takes k t (all_formed d w).1 e in
-    (four_and (has_cache d t.state) (has_message is_forward d t.forward) (option_map_or (has_message is_reply d) t.reply true) (has_cache d t.next) formed).2
+    (four_and (has_cache d t.state) (has_message is_forward d t.forward) (option_map_or (has_message is_reply d) t.reply true)
+    (has_cache d t.next) formed).2
 
 -- what a row line does with a request is declared
 row_formed : (d : Draft) → IsWellFormed d → (k : ℕ) (r : RowLine) → slice_get d.rows k ≡ Some r → has_row_form d r.form ≡ true
@@ -131,7 +138,7 @@ load_reply_below d w m h =
     brought_below d w r.dir m r.form (row_formed d w k r e) (both (is_row_for d Read r.form) _ for).1
 
 -- a reply that a store may get is a message
-store_reply_below : (d : Draft) → IsWellFormed d → (m : ℕ) (who : _) → is_store_reply d who m ≡ true → m < length d.messages
+store_reply_below : (d : Draft) → IsWellFormed d → (m : ℕ) (who : Who) → is_store_reply d who m ≡ true → m < length d.messages
 store_reply_below d w m who h =
     let (k, r, e, from) = any_get (λ r. is_row_from d Write who r.form && row_brings d r.dir r.form m) d.rows h in
     brought_below d w r.dir m r.form (row_formed d w k r e) (both (is_row_from d Write who r.form) _ from).1
@@ -146,6 +153,10 @@ asked_below d w r Evict m h = absurd cc
 
 -- What a core row keeps
 
+-- an owner that may write goes to a state that is none or is clean, or that the directory tells apart
+abbrev hits_to : Draft → ℕ → ℕ → Bool
+hits_to d s t = cache_is is_write_owner d s && (not (cache_is is_dirty_writer d t) || list_any (parts s t) d.dirs)
+
 -- no rule is broken by a core line of this state, event and form
 record Keeps (d : Draft) (s : ℕ) (event : Event) (form : CoreForm) : Type 0 where
   formed : has_core_form d event form ≡ true
@@ -155,8 +166,7 @@ record Keeps (d : Draft) (s : ℕ) (event : Event) (form : CoreForm) : Type 0 wh
   asked : asks_otherwise d event form ≡ false
   replies : has_wrong_replies d s event form ≡ false
   ends : ends_wrongly d event form ≡ false
-  hits : option_map_or (λ t. cache_is is_write_owner d s && (not (cache_is is_dirty_writer d t) || list_any (parts s t) d.dirs))
-      (store_next s event form) false ≡ false
+  hits : option_map_or (hits_to d s) (store_next s event form) false ≡ false
   leaves : leaves_wrongly d s form ≡ false
   cleans : ends_unclean d event form ≡ false
 
@@ -179,7 +189,8 @@ core_line_keeps : (d : Draft) → IsWellFormed d → HasShape d → (k : ℕ) (x
 core_line_keeps d w h k x e =
     let kept : breaks_s7 d x ≡ false = core_keeps d h k x e S7 in
     let (leaves, done, asks, rests, asked, replies, ends) = seven_not (leaves_out d x) (asks_needlessly d x) (hits_without_perm d x)
-    (moves_at_load x.event x.form) (asks_otherwise d x.event x.form) (has_wrong_replies d x.state x.event x.form) (ends_wrongly d x.event x.form) kept in
+    (moves_at_load x.event x.form) (asks_otherwise d x.event x.form) (has_wrong_replies d x.state x.event x.form)
+    (ends_wrongly d x.event x.form) kept in
     record {
       formed = core_formed d w k x e;
       done = done;
@@ -194,7 +205,8 @@ core_line_keeps d w h k x e =
     }
 
 -- nor does a core row, at its state and event
-core_row_keeps : (d : Draft) → IsWellFormed d → HasShape d → (s : ℕ) (event : Event) (x : CoreLine) → core_row d s event ≡ Some x → Keeps d s event x.form
+core_row_keeps : (d : Draft) → IsWellFormed d → HasShape d → (s : ℕ) (event : Event) (x : CoreLine) → core_row d s event ≡ Some x
+    → Keeps d s event x.form
 core_row_keeps d w h s event x e =
     let (k, g, state, at) = core_row_get d s event x e in
     subst (λ (a : Event). Keeps d s a x.form) at (subst (λ (n : ℕ). Keeps d n x.event x.form) state (core_line_keeps d w h k x g))
@@ -227,6 +239,7 @@ has_request d h event stays_in = at event stays_in
     at Store g = some_of (request_of d Write) (or_parts (is_none (request_of d Read)) (is_none (request_of d Write)) kept).1
     at Evict g = absurd cc
 
+-- without the permission a load asks by READ, and a store by WRITE
 asks : (d : Draft) → HasShape d → (s : ℕ) (event : Event) (c : CacheLine) (form : CoreForm) → Keeps d s event form → same_event event Evict ≡ false
     → slice_get d.caches s ≡ Some c → allows event c ≡ false
     → (request : ℕ) × (pairs : List Pair) × (form ≡ Ask request pairs) × (request_of d (class_of event) ≡ Some request)
@@ -240,7 +253,8 @@ named_below d r event pairs (suc n) m h lt asked =
     let none = or_parts (misses d r event pairs (reply.Reply n)) (misses_below d r event pairs n) h in
     at (cases_lt m n) none.0 (named_below d r event pairs n m none.1)
   where
-    at : (m < n) ⊎ (n ≤ m) → misses d r event pairs (reply.Reply n) ≡ false → (m < n → is_asked d r event (reply.Reply m) ≡ true → names pairs (reply.Reply m) ≡ true)
+    at : (m < n) ⊎ (n ≤ m) → misses d r event pairs (reply.Reply n) ≡ false
+        → (m < n → is_asked d r event (reply.Reply m) ≡ true → names pairs (reply.Reply m) ≡ true)
         → names pairs (reply.Reply m) ≡ true
     at (inl below) last behind = behind below asked
     at (inr above) last behind =
@@ -259,16 +273,18 @@ named d w r event pairs (reply.Reply m) h asked =
     named_below d r event pairs (length d.messages) m none.1 (asked_below d w r event m asked) asked
 
 -- a reply that is named has a final state
-named_final : (name : ReplyName) (pairs : List Pair) → names pairs name ≡ true → (t : ℕ) × (option_map (λ (p : Pair). p.fin) (pair_under name pairs) ≡ Some t)
+named_final : (name : ReplyName) (pairs : List Pair) → names pairs name ≡ true
+    → (t : ℕ) × (option_map (λ (p : Pair). p.fin) (pair_under name pairs) ≡ Some t)
 named_final name pairs h = let (p, e) = any_find (λ p. same_reply p.reply name) pairs h in (p.fin, ap (option_map (λ (p : Pair). p.fin)) e)
 
 -- a core without the permission has a final state under each reply that it may get
-asked_final : (d : Draft) → IsWellFormed d → HasShape d → (s : ℕ) (event : Event) (c : CacheLine) (form : CoreForm) (name : ReplyName) → Keeps d s event form
-    → same_event event Evict ≡ false → slice_get d.caches s ≡ Some c → allows event c ≡ false → is_asked d c.role event name ≡ true
-    → (t : ℕ) × (final_under name form ≡ Some t)
+asked_final : (d : Draft) → IsWellFormed d → HasShape d → (s : ℕ) (event : Event) (c : CacheLine) (form : CoreForm) (name : ReplyName)
+    → Keeps d s event form → same_event event Evict ≡ false → slice_get d.caches s ≡ Some c → allows event c ≡ false
+    → is_asked d c.role event name ≡ true → (t : ℕ) × (final_under name form ≡ Some t)
 asked_final d w h s event c form name keeps stays_in e lacks asked =
     let (request, pairs, is_ask, r) = asks d h s event c form keeps stays_in e lacks in
-    let replies : has_wrong_replies d s event (Ask request pairs) ≡ false = subst (λ (f : CoreForm). has_wrong_replies d s event f ≡ false) is_ask keeps.replies in
+    let replies : has_wrong_replies d s event (Ask request pairs) ≡ false =
+    subst (λ (f : CoreForm). has_wrong_replies d s event f ≡ false) is_ask keeps.replies in
     let wrong : cache_is (λ c. names_wrongly d c.role event pairs) d s ≡ false =
     and_not (is_some (request_of d (class_of event))) (cache_is (λ c. names_wrongly d c.role event pairs) d s) replies (ap is_some r) in
     let none = three_not (names_twice pairs) (names_another d c.role event pairs) (misses_reply d c.role event pairs)
@@ -322,12 +338,15 @@ ends_first : (q : Pair) (pairs : List Pair) (k : ℕ) (p : Pair) → ends_differ
 ends_first q pairs zero p h e = ap (λ (p : Pair). p.fin) (sym (same_Some q p e))
 ends_first q pairs (suc k) p h e = eqb-true p.fin q.fin (not_false (p.fin == q.fin) (any_not (λ p. not (p.fin == q.fin)) pairs k p h e))
 
-one_end : (pairs : List Pair) (j k : ℕ) (p q : Pair) → ends_differ pairs ≡ false → slice_get pairs j ≡ Some p → slice_get pairs k ≡ Some q → p.fin ≡ q.fin
+-- two final states are one
+one_end : (pairs : List Pair) (j k : ℕ) (p q : Pair) → ends_differ pairs ≡ false
+    → slice_get pairs j ≡ Some p → slice_get pairs k ≡ Some q → p.fin ≡ q.fin
 one_end [] j k p q h e g = absurd cc
 one_end (r ∷ pairs) j k p q h e g = ends_first r pairs j p h e ∙ sym (ends_first r pairs k q h g)
 
 -- a store has one final state
-store_ends_once : (d : Draft) (s t u : ℕ) (a b : ReplyName) (form : CoreForm) → Keeps d s Store form → final_under a form ≡ Some t → final_under b form ≡ Some u → t ≡ u
+store_ends_once : (d : Draft) (s t u : ℕ) (a b : ReplyName) (form : CoreForm) → Keeps d s Store form
+    → final_under a form ≡ Some t → final_under b form ≡ Some u → t ≡ u
 store_ends_once d s t u a b (Hit next) keeps e f = absurd cc
 store_ends_once d s t u a b (Leave request) keeps e f = absurd cc
 store_ends_once d s t u a b (Ask request pairs) keeps e f =
@@ -336,6 +355,7 @@ store_ends_once d s t u a b (Ask request pairs) keeps e f =
     let none = or_parts (list_any (λ p. is_no_store_final d p.fin) pairs) (ends_differ pairs) keeps.ends in
     sym fin_p ∙ one_end pairs j k p q none.1 g i ∙ fin_q
 
+-- names of the same reply are the same
 reply_equal : (a b : ReplyName) → same_reply a b ≡ true → a ≡ b
 reply_equal reply.AckCount reply.AckCount h = refl
 reply_equal (reply.Reply m) (reply.Reply n) h = ap reply.Reply (eqb-true m n h)
@@ -368,13 +388,14 @@ load_hit_stays d s (Hit (Some next)) keeps h = absurd (not_both true refl keeps.
 load_hit_stays d s (Ask request pairs) keeps h = absurd cc
 load_hit_stays d s (Leave request) keeps h = absurd cc
 
--- states that a directory state doesn't tell apart
+-- of two that a directory state doesn't tell apart, it lists both or none
 not_parted : (a b : Bool) → ((a && not b) || (not a && b)) ≡ false → b ≡ a
 not_parted true true h = refl
 not_parted true false h = absurd cc
 not_parted false true h = absurd cc
 not_parted false false h = refl
 
+-- such states are listed together
 same_lists : (d : Draft) (s t : ℕ) → list_any (parts s t) d.dirs ≡ false → (n : ℕ) → lists d n t ≡ lists d n s
 same_lists d s t none n = at (slice_get d.dirs n) refl
   where
@@ -384,13 +405,11 @@ same_lists d s t none n = at (slice_get d.dirs n) refl
     at (Some l) e = not_parted (lists_state l.beside s) (lists_state l.beside t) (any_not (parts s t) d.dirs n l none e)
 
 -- a store hit of an owner that may write leads to one that isn't clean, and that the directory doesn't tell apart
-store_hit_ends : (d : Draft) (s t : ℕ) (form : CoreForm) → Keeps d s Store form → cache_is is_write_owner d s ≡ true → store_next s Store form ≡ Some t
-    → (cache_is is_dirty_writer d t ≡ true) × ((n : ℕ) → lists d n t ≡ lists d n s)
+store_hit_ends : (d : Draft) (s t : ℕ) (form : CoreForm) → Keeps d s Store form → cache_is is_write_owner d s ≡ true
+    → store_next s Store form ≡ Some t → (cache_is is_dirty_writer d t ≡ true) × ((n : ℕ) → lists d n t ≡ lists d n s)
 store_hit_ends d s t form keeps writer e =
-    let here : (cache_is is_write_owner d s && (not (cache_is is_dirty_writer d t) || list_any (parts s t) d.dirs)) ≡ false =
-    subst (λ o. option_map_or (λ t. cache_is is_write_owner d s && (not (cache_is is_dirty_writer d t) || list_any (parts s t) d.dirs)) o false ≡ false) e keeps.hits in
-    let none = or_parts (not (cache_is is_dirty_writer d t)) (list_any (parts s t) d.dirs)
-    (and_not (cache_is is_write_owner d s) (not (cache_is is_dirty_writer d t) || list_any (parts s t) d.dirs) here writer) in
+    let here : hits_to d s t ≡ false = subst (λ o. option_map_or (hits_to d s) o false ≡ false) e keeps.hits in
+    let none = or_parts (not (cache_is is_dirty_writer d t)) (list_any (parts s t) d.dirs) (and_not (cache_is is_write_owner d s) _ here writer) in
     (not_false (cache_is is_dirty_writer d t) none.0, same_lists d s t none.1)
 
 -- an evict gives the copy up
@@ -400,60 +419,71 @@ evict_leaves d s (Ask request pairs) keeps = absurd (not_both false keeps.formed
 evict_leaves d s (Leave m) keeps = (m, refl)
 
 -- and by a request that its state may
-leaves_right : (d : Draft) (s m : ℕ) (event : Event) (c : CacheLine) (form : CoreForm) → Keeps d s event form → slice_get d.caches s ≡ Some c → form ≡ Leave m
-    → leaves_by_another d c.role c.clean m ≡ false
+leaves_right : (d : Draft) (s m : ℕ) (event : Event) (c : CacheLine) (form : CoreForm) → Keeps d s event form → slice_get d.caches s ≡ Some c
+    → form ≡ Leave m → leaves_by_another d c.role c.clean m ≡ false
 leaves_right d s m event c form keeps e leaves =
     let here : leaves_wrongly d s (Leave m) ≡ false = subst (λ (f : CoreForm). leaves_wrongly d s f ≡ false) leaves keeps.leaves in
     sym (at_cache (λ c. leaves_by_another d c.role c.clean m) d s c e) ∙ here
 
 -- Roles and permissions
 
+-- the role of a state by its test
 role_out : (r : Role) → is_out r ≡ true → r ≡ role.Out
 role_out role.Out h = refl
 role_out role.Shared h = absurd cc
 role_out role.Owner h = absurd cc
 
+-- likewise of shared
 role_shared : (r : Role) → is_shared r ≡ true → r ≡ role.Shared
 role_shared role.Out h = absurd cc
 role_shared role.Shared h = refl
 role_shared role.Owner h = absurd cc
 
+-- and of an owner
 role_owner : (r : Role) → is_owner r ≡ true → r ≡ role.Owner
 role_owner role.Out h = absurd cc
 role_owner role.Shared h = absurd cc
 role_owner role.Owner h = refl
 
+-- no permission doesn't allow a store
 none_writes_not : (p : Perm) → is_none_perm p ≡ true → is_write_perm p ≡ false
 none_writes_not perm.None h = refl
 none_writes_not perm.Read h = absurd cc
 none_writes_not perm.Write h = absurd cc
 
+-- nor does a permission to read
 read_writes_not : (p : Perm) → is_read_perm p ≡ true → is_write_perm p ≡ false
 read_writes_not perm.None h = absurd cc
 read_writes_not perm.Read h = refl
 read_writes_not perm.Write h = absurd cc
 
 -- the out state is out, and has no permission
-out_line : (d : Draft) → HasShape d → (s : ℕ) → out d ≡ Some s → (c : CacheLine) × (slice_get d.caches s ≡ Some c) × (c.role ≡ role.Out) × (is_none_perm c.perm ≡ true)
+out_line : (d : Draft) → HasShape d → (s : ℕ) → out d ≡ Some s
+    → (c : CacheLine) × (slice_get d.caches s ≡ Some c) × (c.role ≡ role.Out) × (is_none_perm c.perm ≡ true)
 out_line d h s e =
     let (c, g, is_so) = (position_get (λ c. is_out c.role) d.caches s e).1 in
     let kept : has_wrong_perm c ≡ false = cache_keeps d h s c g S1 in
-    let none = three_not (is_out c.role && not (is_none_perm c.perm)) (is_shared c.role && not (is_read_perm c.perm)) (is_owner c.role && is_none_perm c.perm) kept in
+    let none = three_not (is_out c.role && not (is_none_perm c.perm)) (is_shared c.role && not (is_read_perm c.perm))
+    (is_owner c.role && is_none_perm c.perm) kept in
     (c, g, role_out c.role is_so, not_false (is_none_perm c.perm) (and_not (is_out c.role) (not (is_none_perm c.perm)) none.0 is_so))
 
 -- the shared state is shared, and may read
-shared_line : (d : Draft) → HasShape d → (s : ℕ) → shared d ≡ Some s → (c : CacheLine) × (slice_get d.caches s ≡ Some c) × (c.role ≡ role.Shared) × (is_read_perm c.perm ≡ true)
+shared_line : (d : Draft) → HasShape d → (s : ℕ) → shared d ≡ Some s
+    → (c : CacheLine) × (slice_get d.caches s ≡ Some c) × (c.role ≡ role.Shared) × (is_read_perm c.perm ≡ true)
 shared_line d h s e =
     let (c, g, is_so) = (position_get (λ c. is_shared c.role) d.caches s e).1 in
     let kept : has_wrong_perm c ≡ false = cache_keeps d h s c g S1 in
-    let none = three_not (is_out c.role && not (is_none_perm c.perm)) (is_shared c.role && not (is_read_perm c.perm)) (is_owner c.role && is_none_perm c.perm) kept in
+    let none = three_not (is_out c.role && not (is_none_perm c.perm)) (is_shared c.role && not (is_read_perm c.perm))
+    (is_owner c.role && is_none_perm c.perm) kept in
     (c, g, role_shared c.role is_so, not_false (is_read_perm c.perm) (and_not (is_shared c.role) (not (is_read_perm c.perm)) none.1 is_so))
 
 -- The facts
 
+-- a state has its row at each event, but for out at evict
 row : (d : Draft) → HasShape d → (s : ℕ) (event : Event) (c : CacheLine) → slice_get d.caches s ≡ Some c → (event ≡ Evict → is_out c.role ≡ false)
     → (x : CoreLine) × (core_row d s event ≡ Some x)
-row d h s event c e leaves = has_core_row d h s event (slice_get_within d.caches s c e) (λ at. not_true (is (out d) s) (λ out. no_out (leaves at) out))
+row d h s event c e leaves =
+    has_core_row d h s event (slice_get_within d.caches s c e) (λ at. not_true (is (out d) s) (λ out. no_out (leaves at) out))
   where
     no_out : is_out c.role ≡ false → is (out d) s ≡ true → ⊥
     no_out other at_out =
@@ -461,26 +491,32 @@ row d h s event c e leaves = has_core_row d h s event (slice_get_within d.caches
         let same : x ≡ c = same_Some x c (sym g ∙ e) in
         not_both (is_out c.role) (subst (λ (l : CacheLine). is_out l.role ≡ true) same is_so) other
 
-load_reply : (d : Draft) → IsWellFormed d → HasShape d → (s m : ℕ) (x : CoreLine) → out d ≡ Some s → core_row d s Load ≡ Some x → is_load_reply d m ≡ true
-    → (t : ℕ) × (final_under (reply.Reply m) x.form ≡ Some t)
+-- a load from the out state has a final state under each reply that it may get
+load_reply : (d : Draft) → IsWellFormed d → HasShape d → (s m : ℕ) (x : CoreLine) → out d ≡ Some s → core_row d s Load ≡ Some x
+    → is_load_reply d m ≡ true → (t : ℕ) × (final_under (reply.Reply m) x.form ≡ Some t)
 load_reply d w h s m x at_out e asked =
     let (c, g, is_so, none) = out_line d h s at_out in
     asked_final d w h s Load c x.form (reply.Reply m) (core_row_keeps d w h s Load x e) refl g (ap not none) asked
 
-store_reply_out : (d : Draft) → IsWellFormed d → HasShape d → (s m : ℕ) (x : CoreLine) → out d ≡ Some s → core_row d s Store ≡ Some x → is_store_reply d Other m ≡ true
-    → (t : ℕ) × (final_under (reply.Reply m) x.form ≡ Some t)
+-- so has a store from the out state
+store_reply_out : (d : Draft) → IsWellFormed d → HasShape d → (s m : ℕ) (x : CoreLine) → out d ≡ Some s → core_row d s Store ≡ Some x
+    → is_store_reply d Other m ≡ true → (t : ℕ) × (final_under (reply.Reply m) x.form ≡ Some t)
 store_reply_out d w h s m x at_out e asked =
     let (c, g, is_so, none) = out_line d h s at_out in
-    let asks_it : is_asked d c.role Store (reply.Reply m) ≡ true = subst (λ (r : Role). is_asked d r Store (reply.Reply m) ≡ true) (sym is_so) asked in
+    let asks_it : is_asked d c.role Store (reply.Reply m) ≡ true =
+    subst (λ (r : Role). is_asked d r Store (reply.Reply m) ≡ true) (sym is_so) asked in
     asked_final d w h s Store c x.form (reply.Reply m) (core_row_keeps d w h s Store x e) refl g (none_writes_not c.perm none) asks_it
 
+-- and one from the shared state
 store_reply_shared : (d : Draft) → IsWellFormed d → HasShape d → (s m : ℕ) (x : CoreLine) → shared d ≡ Some s → core_row d s Store ≡ Some x
     → is_store_reply d Sharer m ≡ true → (t : ℕ) × (final_under (reply.Reply m) x.form ≡ Some t)
 store_reply_shared d w h s m x at_shared e asked =
     let (c, g, is_so, reads) = shared_line d h s at_shared in
-    let asks_it : is_asked d c.role Store (reply.Reply m) ≡ true = subst (λ (r : Role). is_asked d r Store (reply.Reply m) ≡ true) (sym is_so) asked in
+    let asks_it : is_asked d c.role Store (reply.Reply m) ≡ true =
+    subst (λ (r : Role). is_asked d r Store (reply.Reply m) ≡ true) (sym is_so) asked in
     asked_final d w h s Store c x.form (reply.Reply m) (core_row_keeps d w h s Store x e) refl g (read_writes_not c.perm reads) asks_it
 
+-- a store of an owner that may only read has one under the count
 store_count : (d : Draft) → IsWellFormed d → HasShape d → (s : ℕ) (x : CoreLine) → cache_is is_read_owner d s ≡ true → core_row d s Store ≡ Some x
     → (t : ℕ) × (final_under reply.AckCount x.form ≡ Some t)
 store_count d w h s x reader e =
@@ -490,18 +526,21 @@ store_count d w h s x reader e =
     subst (λ (r : Role). is_asked d r Store reply.AckCount ≡ true) (sym (role_owner c.role is_so)) refl in
     asked_final d w h s Store c x.form reply.AckCount (core_row_keeps d w h s Store x e) refl g (read_writes_not c.perm reads) asks_it
 
-evict_shared : (d : Draft) → IsWellFormed d → HasShape d → (s m : ℕ) (x : CoreLine) → shared d ≡ Some s → core_row d s Evict ≡ Some x → x.form ≡ Leave m
-    → asks_class Clean d m ≡ true
+-- the shared state is left by a request of class clean
+evict_shared : (d : Draft) → IsWellFormed d → HasShape d → (s m : ℕ) (x : CoreLine) → shared d ≡ Some s → core_row d s Evict ≡ Some x
+    → x.form ≡ Leave m → asks_class Clean d m ≡ true
 evict_shared d w h s m x at_shared e leaves =
     let (c, g, is_so, reads) = shared_line d h s at_shared in
     let right = leaves_right d s m Evict c x.form (core_row_keeps d w h s Evict x e) g leaves in
     not_false (asks_class Clean d m) (subst (λ (r : Role). leaves_by_another d r c.clean m ≡ false) is_so right)
 
-evict_dirty : (d : Draft) → IsWellFormed d → HasShape d → (s m : ℕ) (x : CoreLine) (c : CacheLine) → slice_get d.caches s ≡ Some c → is_owner c.role ≡ true
-    → c.clean ≡ false → core_row d s Evict ≡ Some x → x.form ≡ Leave m → asks_class Dirty d m ≡ true
+-- an owner that isn't clean is left by one of class dirty
+evict_dirty : (d : Draft) → IsWellFormed d → HasShape d → (s m : ℕ) (x : CoreLine) (c : CacheLine) → slice_get d.caches s ≡ Some c
+    → is_owner c.role ≡ true → c.clean ≡ false → core_row d s Evict ≡ Some x → x.form ≡ Leave m → asks_class Dirty d m ≡ true
 evict_dirty d w h s m x c g owns unclean e leaves =
     let right = leaves_right d s m Evict c x.form (core_row_keeps d w h s Evict x e) g leaves in
-    let owner : leaves_by_another d role.Owner c.clean m ≡ false = subst (λ (r : Role). leaves_by_another d r c.clean m ≡ false) (role_owner c.role owns) right in
+    let owner : leaves_by_another d role.Owner c.clean m ≡ false =
+    subst (λ (r : Role). leaves_by_another d r c.clean m ≡ false) (role_owner c.role owns) right in
     let here : leaves_by_another d role.Owner false m ≡ false = subst (λ (b : Bool). leaves_by_another d role.Owner b m ≡ false) unclean owner in
     or_nothing (asks_class Dirty d m) (not_false (asks_class Dirty d m || false) here)
   where
