@@ -9,3 +9,4 @@ pub mod Rows
 pub mod Nexts
 pub mod Takes
 pub mod States
+pub mod Cores
