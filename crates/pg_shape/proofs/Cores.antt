@@ -41,7 +41,7 @@ use Rattle.pg_shape.specs.NextRules.{pair_under, final_under}
 use Rattle.pg_shape.specs.ShapeFaults.{HasShape}
 use Rattle.pg_shape.specs.Shaped.{HasCores}
 use Rattle.pg_shape.proofs.Bools.{three_not, three_and, and_not, not_false, one_of}
-use Rattle.pg_shape.proofs.Searches.{not_both, not_true, any_get, any_not, find_get, position_get, map_or_get, some_of}
+use Rattle.pg_shape.proofs.Searches.{all_at, not_both, not_true, any_get, any_not, find_get, position_get, map_or_get, some_of}
 use Rattle.pg_shape.proofs.Shaped.{text_keeps, cache_keeps, core_keeps, has_core_row, is_one}
 
 -- Tests, lists and options
@@ -63,12 +63,6 @@ seven_not false false false true e f g h = absurd cc
 seven_not false false true d e f g h = absurd cc
 seven_not false true c d e f g h = absurd cc
 seven_not true b c d e f g h = absurd cc
-
--- where all pass, the one at a place does
-all_at : {X : Type 0} (p : X → Bool) (xs : List X) (k : ℕ) (x : X) → list_all p xs ≡ true → slice_get xs k ≡ Some x → p x ≡ true
-all_at p [] k x h e = absurd cc
-all_at p (y ∷ xs) zero x h e = ap p (sym (same_Some y x e)) ∙ (both (p y) (list_all p xs) h).0
-all_at p (y ∷ xs) (suc k) x h e = all_at p xs k x (both (p y) (list_all p xs) h).1 e
 
 -- where one passes, one is found
 any_find : {X : Type 0} (p : X → Bool) (xs : List X) → list_any p xs ≡ true → (x : X) × (find p xs ≡ Some x)
@@ -329,9 +323,10 @@ store_ends d s t name (Ask request pairs) keeps e =
     let none = or_parts (list_any (λ p. is_no_store_final d p.fin) pairs) (ends_differ pairs) keeps.ends in
     let right : is_no_store_final d p.fin ≡ false = any_not (λ p. is_no_store_final d p.fin) pairs k p none.0 g in
     let here : is_no_store_final d t ≡ false = subst (λ n. is_no_store_final d n ≡ false) fin right in
-    let (writes, moves) = or_parts (not (cache_is is_dirty_writer d t)) (moves_at_store d t) here in
-    (not_false (cache_is is_dirty_writer d t) writes,
-    λ y f. not_false (stays t y.form) (sym (ap (λ (o : Option CoreLine). option_map_or (λ c. not (stays t c.form)) o false) f) ∙ moves))
+    let (writes, moves) = or_parts (not (cache_is is_dirty_writer d t)) (moves_at_store d t) here in (
+      not_false (cache_is is_dirty_writer d t) writes,
+      λ y f. not_false (stays t y.form) (sym (ap (λ (o : Option CoreLine). option_map_or (λ c. not (stays t c.form)) o false) f) ∙ moves),
+    )
 
 -- where no two final states differ, each is the first
 ends_first : (q : Pair) (pairs : List Pair) (k : ℕ) (p : Pair) → ends_differ (q ∷ pairs) ≡ false → slice_get (q ∷ pairs) k ≡ Some p → p.fin ≡ q.fin

@@ -10,3 +10,4 @@ pub mod Nexts
 pub mod Takes
 pub mod States
 pub mod Cores
+pub mod Given

@@ -90,10 +90,11 @@ reads d h = record {
   keep = λ n f r e does class.
       let p = read_parts d h n f r e does in
       let q = three_and (kind_is kind.Mixed d r.next) (are_kept d r.next (listed d r.dir)) (are_shared d Other f (listed d r.dir))
-      (where_so (has_class Keep d f) (leads_to_mixed d r Other f) p.2 class) in
-      (q.0,
-      λ x s at kept. passing (lists d r.next) (keep_of d x) s (listed_all (is_kept d r.next) d n x (at_dir d n (are_kept d r.next) r p.0 q.1) at) kept,
-      λ x s at fin. shared_by d n f x s r p.0 q.2 at fin);
+      (where_so (has_class Keep d f) (leads_to_mixed d r Other f) p.2 class) in (
+        q.0,
+        λ x s at kept. passing (lists d r.next) (keep_of d x) s (listed_all (is_kept d r.next) d n x (at_dir d n (are_kept d r.next) r p.0 q.1) at) kept,
+        λ x s at fin. shared_by d n f x s r p.0 q.2 at fin,
+      );
   drop = λ n f r e does class.
       let p = read_parts d h n f r e does in
       let q = both (kind_is kind.Owned d r.next) (are_owners d Other r.next f (listed d r.dir)) (where_so (has_class Drop d f) (leads_to_owned d r Other f) p.3 class) in
@@ -168,9 +169,11 @@ sharer_leads : (d : Draft) → HasShape d → (n : ℕ) (l : Left) (r : RowLine)
     → (r.dir ≡ n) × (kind_is kind.Shared d n ≡ true → leaves_rightly d r l ≡ true) × (kind_is kind.Mixed d n ≡ true → keeps_owner d r l ≡ true)
 sharer_leads d h n l r e =
     let p = evict_leads d h n Sharer l r e in
-    let q = both (not (kind_is kind.Shared d r.dir) || leaves_rightly d r l) (not (kind_is kind.Mixed d r.dir) || keeps_owner d r l) p.1 in
-    (p.0, λ k. where_so (kind_is kind.Shared d r.dir) (leaves_rightly d r l) q.0 (subst (λ m. kind_is kind.Shared d m ≡ true) (sym p.0) k),
-    λ k. where_so (kind_is kind.Mixed d r.dir) (keeps_owner d r l) q.1 (subst (λ m. kind_is kind.Mixed d m ≡ true) (sym p.0) k))
+    let q = both (not (kind_is kind.Shared d r.dir) || leaves_rightly d r l) (not (kind_is kind.Mixed d r.dir) || keeps_owner d r l) p.1 in (
+      p.0,
+      λ k. where_so (kind_is kind.Shared d r.dir) (leaves_rightly d r l) q.0 (subst (λ m. kind_is kind.Shared d m ≡ true) (sym p.0) k),
+      λ k. where_so (kind_is kind.Mixed d r.dir) (keeps_owner d r l) q.1 (subst (λ m. kind_is kind.Mixed d m ≡ true) (sym p.0) k),
+    )
 
 pub evicts : (d : Draft) → HasShape d → HasEvicts d
 evicts d h = record {

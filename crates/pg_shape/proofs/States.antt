@@ -95,10 +95,14 @@ owner_some d h s c e role = and_not (is_owner c.role) _ (right_perm d h s c e).2
 pub perms : (d : Draft) → HasShape d → HasPerms d
 perms d h = record {
   start = has_out d h;
-  out_none = λ s c e role. (first_place (λ c. is_out c.role) d.caches (one_out d h) s c e role,
-      not_false (is_none_perm c.perm) (and_not (is_out c.role) _ (right_perm d h s c e).0 role));
-  shared_read = λ s c e role. (first_place (λ c. is_shared c.role) d.caches (one_shared d h) s c e role,
-      not_false (is_read_perm c.perm) (and_not (is_shared c.role) _ (right_perm d h s c e).1 role));
+  out_none = λ s c e role. (
+    first_place (λ c. is_out c.role) d.caches (one_out d h) s c e role,
+    not_false (is_none_perm c.perm) (and_not (is_out c.role) _ (right_perm d h s c e).0 role),
+  );
+  shared_read = λ s c e role. (
+    first_place (λ c. is_shared c.role) d.caches (one_shared d h) s c e role,
+    not_false (is_read_perm c.perm) (and_not (is_shared c.role) _ (right_perm d h s c e).1 role),
+  );
   owner_some = owner_some d h;
   clean_owner = λ s c e clean. let kept : is_needlessly_clean c ≡ false = cache_keeps d h s c e S3 in
       not_false (is_owner c.role) (and_not c.clean _ kept clean);

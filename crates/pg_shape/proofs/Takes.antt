@@ -251,10 +251,12 @@ takes d h l start = record {
   keep = λ s f t e class.
       let (state, forward, right, moves) = taken d h s f t e in
       let wrong = and_not (has_class Keep d t.forward) (keeps_wrongly d t) (answering d t right).2 (of_class d Keep f t.forward forward class) in
-      let parts = three_not (is_none t.reply) (not (cache_is is_read_owner d t.next)) (cache_is (λ c. c.clean) d t.next && not (cache_is (λ c. c.clean) d t.state)) wrong in
-      (is_none-some t.reply parts.0, not_false (cache_is is_read_owner d t.next) parts.1,
-      λ clean. subst (λ n. cache_is (λ c. c.clean) d n ≡ true) state
-      (not_false (cache_is (λ c. c.clean) d t.state) (and_not (cache_is (λ c. c.clean) d t.next) (not (cache_is (λ c. c.clean) d t.state)) parts.2 clean)));
+      let parts = three_not (is_none t.reply) (not (cache_is is_read_owner d t.next)) (cache_is (λ c. c.clean) d t.next && not (cache_is (λ c. c.clean) d t.state)) wrong in (
+        is_none-some t.reply parts.0,
+        not_false (cache_is is_read_owner d t.next) parts.1,
+        λ clean. subst (λ n. cache_is (λ c. c.clean) d n ≡ true) state
+            (not_false (cache_is (λ c. c.clean) d t.state) (and_not (cache_is (λ c. c.clean) d t.next) (not (cache_is (λ c. c.clean) d t.state)) parts.2 clean)),
+      );
   drop = λ s f t e class.
       let (state, forward, right, moves) = taken d h s f t e in
       let wrong = and_not (has_class Drop d t.forward) (drops_wrongly d t) (answering d t right).3 (of_class d Drop f t.forward forward class) in

@@ -4,12 +4,11 @@ ghost use Rattle.pg_terms.specs.Terms as term;
 ghost use Rattle.pg_shape.specs.CacheRules as cache;
 ghost use Rattle.pg_shape.specs.FirstFaults.{first_rule};
 
-use pg_terms::{forward_in, is_to_owner};
-use pg_terms::{
-    core_row, forward_of, is, is_out, is_owner, is_shared, lists, lists_state, out, shared,
-    take_row,
-};
 use pg_perm::{CacheLine, Draft, Event, FwdClass, Perm, RowLine, Rule};
+use pg_terms::{
+    core_row, forward_in, forward_of, is, is_out, is_owner, is_shared, is_to_owner, lists,
+    lists_state, out, shared, take_row,
+};
 
 /// The most cache states in which a cache is the owner.
 const OWNER_LIMIT: usize = 12;

@@ -4,14 +4,14 @@ ghost use Rattle.pg_terms.specs.Terms as term;
 ghost use Rattle.pg_shape.specs.CoreRules as rule;
 ghost use Rattle.pg_shape.specs.FirstFaults.{first_rule};
 
-use pg_terms::{is_load_reply, is_reply, is_store_reply};
-use pg_terms::{
-    core_row, is, is_clean_state, is_other, is_out, is_owner_state, is_request_of, is_write_owner,
-    is_write_owner_state, lists_state, request_of, shared,
-};
 use pg_perm::{
     CacheLine, CoreForm, CoreLine, DirLine, Draft, Event, Pair, Perm, ReplyName, ReqClass, Role,
     Rule, Who,
+};
+use pg_terms::{
+    core_row, is, is_clean_state, is_load_reply, is_other, is_out, is_owner_state, is_reply,
+    is_request_of, is_store_reply, is_write_owner, is_write_owner_state, lists_state, request_of,
+    shared,
 };
 
 fn allows(event: Event, cache: &CacheLine) -> bool

@@ -4,12 +4,11 @@ ghost use Rattle.pg_terms.specs.Terms as term;
 ghost use Rattle.pg_shape.specs.DirRules as rule;
 ghost use Rattle.pg_shape.specs.FirstFaults.{first_rule};
 
-use pg_terms::DirCase;
-use pg_terms::cases_at;
-use pg_terms::{
-    dir_row, is_owner_state, is_write_owner_state, lists_state, request_of, shared,
-};
 use pg_perm::{DirKind, DirLine, Draft, Rule};
+use pg_terms::{
+    DirCase, cases_at, dir_row, is_owner_state, is_write_owner_state, lists_state, request_of,
+    shared,
+};
 
 fn has_idle(above: &[DirLine]) -> bool
     ensures { result ≡ list_any rule.is_idle above.now }

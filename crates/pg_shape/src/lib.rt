@@ -16,8 +16,7 @@ mod row_rules;
 mod take_rules;
 mod text_rules;
 
-pub use pg_terms::DirCase;
 pub use error::ShapeError;
-pub use laws::first_fault_is_exact;
-pub use laws::scratch_law;
+pub use laws::{first_fault_is_exact, what_the_shape_gives};
+pub use pg_terms::DirCase;
 pub use protocol::{Protocol, shape};

@@ -4,8 +4,8 @@ ghost use Rattle.pg_terms.specs.Terms as term;
 ghost use Rattle.pg_shape.specs.MessageRules as rule;
 ghost use Rattle.pg_shape.specs.FirstFaults.{first_rule};
 
-use pg_terms::{is_forward_of, is_request_of, shared};
 use pg_perm::{Draft, FwdClass, MsgClass, MsgLine, ReqClass, Rule};
+use pg_terms::{is_forward_of, is_request_of, shared};
 
 fn has_request(class: ReqClass, above: &[MsgLine]) -> bool
     ensures { result ≡ rule.has_request class above.now }

@@ -2,14 +2,13 @@ ghost use Rattle.std.specs.Prelude.{◌≡◌};
 ghost use Rattle.std.specs.Option.{option_copied};
 ghost use Rattle.pg_shape.specs.NextRules as rule;
 
-use pg_terms::kind_is;
-use pg_terms::{
-    core_row, has_class, is, is_owner_state, is_read_owner_state, keep_of, listed, lists, out,
-    request_of, shared, take_row,
-};
 use pg_perm::{
     Action, CoreForm, CoreLine, DirKind, Draft, Event, FwdClass, Left, Pair, ReplyName, ReqClass,
     RowForm, RowLine, Who,
+};
+use pg_terms::{
+    core_row, has_class, is, is_owner_state, is_read_owner_state, keep_of, kind_is, listed, lists,
+    out, request_of, shared, take_row,
 };
 
 /// The core row of who asks.

@@ -7,15 +7,15 @@ ghost use Rattle.pg_perm.specs.Drafts.{IsWellFormed};
 ghost use Rattle.pg_terms.specs.Terms as term;
 ghost use Rattle.pg_terms.specs.Due as due;
 ghost use Rattle.pg_shape.specs.ShapeFaults.{HasShape, IsShapeFault, IsProtocol};
+ghost use Rattle.pg_shape.specs.Shaped.{IsShaped};
 ghost use Rattle.pg_shape.specs.FirstFaults as first;
 ghost use Rattle.pg_shape.specs.Answers.{Judges};
 
-use pg_terms::DirCase;
-use pg_terms::is_due;
 use crate::error::ShapeError;
 use crate::faults::shape_fault;
-use pg_terms as terms;
 use pg_perm::{CoreLine, Draft, Event, Perm, RowLine, TakeLine};
+use pg_terms as terms;
+use pg_terms::{DirCase, is_due};
 use std::marker::Model;
 
 /// A draft that has the shape of a protocol. Contracts see the draft.
@@ -45,6 +45,7 @@ pub fn shape(draft: Draft) -> Result<Protocol, ShapeError>
     ensures fault { (f : Fault) → result ≡ Err (ShapeError.Fault f) → IsShapeFault draft f }
     ensures protocol { IfOk result (λ p. p ≡ draft) }
     ensures whole { IfOk result (λ p. HasShape p) }
+    ensures shaped { IfOk result (λ p. IsShaped p) }
 {
     match shape_fault(&draft) {
         Some(fault) => Err(ShapeError::Fault(fault)),
@@ -53,8 +54,10 @@ pub fn shape(draft: Draft) -> Result<Protocol, ShapeError>
 }
 
 impl Protocol {
+    /// The draft of which the protocol was made, with what the shape gives of it.
     pub fn draft(&self) -> &Draft
-        ensures { result.now ≡ self.now }
+        ensures exact { result.now ≡ self.now }
+        ensures shaped { IsShaped self.now }
     {
         &self.draft
     }

@@ -2,10 +2,9 @@ ghost use Rattle.std.specs.Prelude.{◌≡◌, ◌≤◌, length};
 ghost use Rattle.pg_shape.specs.RowRules as rule;
 ghost use Rattle.pg_shape.specs.FirstFaults.{first_rule};
 
-use pg_terms::{is_form_due, kind_is};
 use crate::next_rules::leads_rightly;
-use pg_terms::{has_class, is, request_of};
 use pg_perm::{Action, DirKind, Draft, FwdClass, ReqClass, RowForm, RowLine, Rule, Who};
+use pg_terms::{has_class, is, is_form_due, kind_is, request_of};
 
 fn same_words(a: RowForm, b: RowForm) -> bool
     ensures { result ≡ rule.same_words a b }

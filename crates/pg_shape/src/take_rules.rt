@@ -2,11 +2,11 @@ ghost use Rattle.std.specs.Prelude.{◌≡◌, ◌≤◌, length};
 ghost use Rattle.pg_shape.specs.TakeRules as rule;
 ghost use Rattle.pg_shape.specs.FirstFaults.{first_rule};
 
-use pg_terms::is_due;
-use pg_terms::{
-    forward_of, has_class, is, is_clean_state, is_other, is_read_owner_state, keep_of, out, shared,
-};
 use pg_perm::{Draft, FwdClass, Rule, TakeLine};
+use pg_terms::{
+    forward_of, has_class, is, is_clean_state, is_due, is_other, is_read_owner_state, keep_of, out,
+    shared,
+};
 
 fn has_take_line(above: &[TakeLine], line: &TakeLine) -> bool
     ensures { result ≡ rule.has_take_line above.now line.now }

@@ -4,13 +4,17 @@ ghost use Rattle.pg_terms.specs.Terms as term;
 ghost use Rattle.pg_shape.specs.TextRules as text;
 ghost use Rattle.pg_shape.specs.FirstFaults.{first_rule};
 
-use pg_terms::{forward_of, is_write_owner, out, request_of, shared};
 use pg_perm::{DirKind, Draft, FwdClass, ReqClass, Rule};
+use pg_terms::{forward_of, is_write_owner, out, request_of, shared};
 
 fn has_write_owner(draft: &Draft) -> bool
     ensures { result ≡ list_any term.is_write_owner draft.now.caches }
 {
-    draft.caches.as_slice().iter().any(is_write_owner)
+    draft
+        .caches
+        .as_slice()
+        .iter()
+        .any(|line| is_write_owner(line))
 }
 
 fn lacks_states(draft: &Draft) -> bool

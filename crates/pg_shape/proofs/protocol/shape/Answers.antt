@@ -1,6 +1,7 @@
 use Rattle.std.proofs.Common.{◌≡◌, sym, ◌∙◌, subst}
 use Rattle.pg_shape.specs.ShapeFaults.{IsShapeFault}
 use Rattle.pg_shape.proofs.Exact.{fault, whole}
+use Rattle.pg_shape.proofs.Given.{shaped}
 use Rattle.pg_shape.proofs.protocol.shape.Goals as goal
 
 pub invariant_of-result : goal.invariant_of-result
@@ -13,3 +14,6 @@ returns-in-Some-clause-fault c = λ f e.
 
 pub returns-in-None-clause-whole : goal.returns-in-None-clause-whole
 returns-in-None-clause-whole c = whole c.args.draft c.requires (sym c.shape_fault.ensures ∙ c.in-None.is)
+
+pub returns-in-None-clause-shaped : goal.returns-in-None-clause-shaped
+returns-in-None-clause-shaped c = shaped c.args.draft c.requires (whole c.args.draft c.requires (sym c.shape_fault.ensures ∙ c.in-None.is))
