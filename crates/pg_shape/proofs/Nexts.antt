@@ -1,8 +1,6 @@
 -- Where row lines lead.
-use Rattle.std.proofs.Common.{◌≡◌, ℕ, ◌⊎◌, Bool, true, false, not, ◌&&◌, ◌||◌, List, Option, Some, None, refl, sym, subst, ap, ◌∙◌, inl, inr}
+use Rattle.std.proofs.Common.{◌≡◌, ℕ, ◌⊎◌, Bool, true, not, ◌&&◌, ◌||◌, List, Option, Some, None, refl, sym, subst, inl, inr}
 use Rattle.std.specs.Option.{option_and_then}
-use Rattle.std.specs.List.{list_all}
-use Rattle.std.proofs.lemmas.Option.{same_Some}
 use Rattle.pg_perm.proofs.Booleans.{both}
 use Rattle.pg_perm.specs.declared.kinds.Event.TheVariants.{Load, Store}
 use Rattle.pg_perm.specs.declared.kinds.DirKind.TheVariants as kind
@@ -15,14 +13,13 @@ use Rattle.pg_perm.specs.declared.kinds.FwdClass.TheVariants.{Share, Keep, Drop}
 use Rattle.pg_perm.specs.declared.draft.Draft.{Draft}
 use Rattle.pg_perm.specs.declared.draft.RowLine.{RowLine}
 use Rattle.pg_perm.specs.declared.draft.RowForm.{RowForm}
-use Rattle.pg_perm.specs.declared.draft.RowForm.TheVariants as form
 use Rattle.pg_perm.specs.declared.draft.Action.{Action}
 use Rattle.pg_perm.specs.declared.draft.Action.TheVariants as action
 use Rattle.pg_perm.specs.declared.fault.Rule.TheVariants.{S17}
 use Rattle.pg_terms.specs.declared.cases.DirCase.TheVariants as case
 use Rattle.pg_terms.specs.Terms.{is, is_owner, is_read_owner, cache_is, shared, request_of, has_class, listed, lists, dir_row, keep_of}
 use Rattle.pg_terms.specs.Due.{kind_is}
-use Rattle.pg_shape.specs.NextRules.{passes, final_of, reply_to, final_by, upgrade_of, lists_owner, is_read_end, is_shared_by, is_kept, is_owner_by, is_listed_by, is_upgrade_listed, are_shared, are_kept, are_owners, are_listed, are_upgraded, lists_each, leads_to_shared, leads_to_mixed, leads_to_owned, reads_owner, reads_rightly, lists_writer, writes_rightly, keeps_owner, leaves_rightly, evicts_rightly, leads_rightly}
+use Rattle.pg_shape.specs.NextRules.{final_of, reply_to, final_by, upgrade_of, lists_owner, is_read_end, is_shared_by, is_kept, is_owner_by, is_listed_by, is_upgrade_listed, are_shared, are_kept, are_owners, are_listed, are_upgraded, lists_each, leads_to_shared, leads_to_mixed, leads_to_owned, reads_rightly, lists_writer, writes_rightly, keeps_owner, leaves_rightly, evicts_rightly, leads_rightly}
 use Rattle.pg_shape.specs.ShapeFaults.{HasShape}
 use Rattle.pg_shape.specs.Shaped.{action_in, HasReads, HasWrites, HasEvicts}
 use Rattle.pg_shape.proofs.Bools.{three_and, not_false, one_of, where_so}

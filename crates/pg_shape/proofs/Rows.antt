@@ -1,17 +1,14 @@
 -- What the shape says of row lines.
-use Rattle.std.proofs.Common.{◌≡◌, ℕ, ◌⊎◌, Bool, true, false, not, ◌&&◌, ◌||◌, List, [], ◌∷◌, Option, Some, None, refl, sym, subst, ap, ◌∙◌, inl, inr}
+use Rattle.std.proofs.Common.{◌≡◌, ℕ, ◌⊎◌, Bool, true, false, not, ◌&&◌, ◌||◌, Option, Some, refl, sym, subst, ap, ◌∙◌}
 use Rattle.std.specs.Prelude.{slice_get, ◌==◌}
-use Rattle.std.specs.Option.{option_and_then}
-use Rattle.std.specs.List.{list_any, list_all}
-use Rattle.std.proofs.lemmas.Bool.{or_parts, eqb-true}
+use Rattle.std.specs.List.{list_all}
+use Rattle.std.proofs.lemmas.Bool.{eqb-true}
 use Rattle.std.proofs.lemmas.Option.{same_Some}
 use Rattle.pg_perm.proofs.Booleans.{both}
-use Rattle.pg_perm.specs.declared.kinds.Event.TheVariants.{Load, Store}
 use Rattle.pg_perm.specs.declared.kinds.DirKind.TheVariants as kind
 use Rattle.pg_perm.specs.declared.kinds.Who.{Who}
 use Rattle.pg_perm.specs.declared.kinds.Who.TheVariants.{Other, Sharer, Owner}
 use Rattle.pg_perm.specs.declared.kinds.Left.{Left}
-use Rattle.pg_perm.specs.declared.kinds.Left.TheVariants.{Last, More}
 use Rattle.pg_perm.specs.declared.kinds.ReqClass.{ReqClass}
 use Rattle.pg_perm.specs.declared.kinds.ReqClass.TheVariants.{Read, Write}
 use Rattle.pg_perm.specs.declared.kinds.FwdClass.{FwdClass}
@@ -25,15 +22,15 @@ use Rattle.pg_perm.specs.declared.draft.Action.TheVariants as action
 use Rattle.pg_perm.specs.declared.fault.Rule.TheVariants.{S16, S17}
 use Rattle.pg_terms.specs.declared.cases.DirCase.{DirCase}
 use Rattle.pg_terms.specs.declared.cases.DirCase.TheVariants as case
-use Rattle.pg_terms.specs.Terms.{is, is_owner, is_read_owner, cache_is, shared, request_of, same_who, same_left, has_class, listed, lists, is_case, dir_row, keep_of}
-use Rattle.pg_terms.specs.Due.{kind_is, is_due_case}
+use Rattle.pg_terms.specs.Terms.{is, request_of, same_who, same_left, has_class, listed, lists, is_case, dir_row}
+use Rattle.pg_terms.specs.Due.{kind_is}
 use Rattle.pg_shape.specs.RowRules.{is_reply, is_count, forwards, reads_by, writes_by, acts_wrongly}
-use Rattle.pg_shape.specs.NextRules.{passes, final_of, reply_to, final_by, upgrade_of, lists_owner, is_read_end, is_shared_by, is_kept, is_owner_by, is_listed_by, is_upgrade_listed, leads_to_shared, leads_to_mixed, leads_to_owned, reads_owner, reads_rightly, lists_writer, writes_rightly, evicts_rightly, leads_rightly}
+use Rattle.pg_shape.specs.NextRules.{passes, leads_rightly}
 use Rattle.pg_shape.specs.ShapeFaults.{HasShape}
-use Rattle.pg_shape.specs.Shaped.{action_in, HasRows, HasReads, HasWrites, HasEvicts}
-use Rattle.pg_shape.proofs.Bools.{three_not, three_and, and_not, not_false, or_so, one_of, one_three, where_so}
+use Rattle.pg_shape.specs.Shaped.{action_in, HasRows}
+use Rattle.pg_shape.proofs.Bools.{three_not, and_not, not_false, or_so, one_of, one_three, where_so}
 use Rattle.pg_shape.proofs.Searches.{any_get, all_at, find_get, some_of}
-use Rattle.pg_shape.proofs.Shaped.{row_keeps, is_one, who_equal, left_equal, row_is_due, due_case_has_row}
+use Rattle.pg_shape.proofs.Shaped.{row_keeps, who_equal, left_equal, row_is_due, due_case_has_row}
 
 -- where all listed states pass, one that is listed does
 pub listed_all : (p : ℕ → Bool) (d : Draft) (n x : ℕ) → list_all p (listed d n) ≡ true → lists d n x ≡ true → p x ≡ true

@@ -1,5 +1,5 @@
 -- What a draft with the shape keeps, and what that says of its rows.
-use Rattle.std.proofs.Common.{◌≡◌, ℕ, ◌<◌, ◌⊎◌, Bool, true, false, not, ◌&&◌, ◌||◌, List, [], length, Option, Some, None, refl, sym, subst, ap, ◌∙◌, inl, inr, Bor}
+use Rattle.std.proofs.Common.{◌≡◌, ℕ, ◌<◌, ◌⊎◌, Bool, true, false, not, ◌&&◌, List, [], length, Option, Some, None, refl, sym, subst, ap, ◌∙◌, inl, inr, Bor}
 use Rattle.std.specs.Prelude.{slice_get, is_none, is_some, ◌==◌}
 use Rattle.std.specs.Option.{option_map_or, option_copied, IsSome}
 use Rattle.std.specs.List.{list_any}

@@ -1,5 +1,5 @@
 -- What the shape says of take lines.
-use Rattle.std.proofs.Common.{◌≡◌, ℕ, ◌⊎◌, Bool, true, false, not, ◌&&◌, ◌||◌, List, [], ◌∷◌, Option, Some, None, refl, sym, subst, ap, ◌∙◌, inl, inr}
+use Rattle.std.proofs.Common.{◌≡◌, ℕ, ◌⊎◌, Bool, true, false, not, ◌&&◌, ◌||◌, [], Option, Some, None, refl, sym, subst, ap, ◌∙◌, inl, inr}
 use Rattle.std.specs.Prelude.{slice_get, ◌==◌, is_none, is_some}
 use Rattle.std.specs.Option.{option_map, option_map_or, option_and_then}
 use Rattle.std.specs.List.{list_any}
@@ -20,20 +20,19 @@ use Rattle.pg_perm.specs.declared.draft.TakeLine.{TakeLine}
 use Rattle.pg_perm.specs.declared.draft.RowLine.{RowLine}
 use Rattle.pg_perm.specs.declared.draft.RowForm.{RowForm}
 use Rattle.pg_perm.specs.declared.draft.RowForm.TheVariants as form
-use Rattle.pg_perm.specs.declared.draft.Action.{Action}
 use Rattle.pg_perm.specs.declared.draft.Action.TheVariants as action
-use Rattle.pg_perm.specs.declared.fault.Rule.TheVariants.{S4, S12, S14, S15, S16}
+use Rattle.pg_perm.specs.declared.fault.Rule.TheVariants.{S12, S14, S15, S16}
 use Rattle.pg_terms.specs.declared.cases.DirCase.{DirCase}
 use Rattle.pg_terms.specs.declared.cases.DirCase.TheVariants as case
 use Rattle.pg_terms.specs.Terms.{is, is_other, is_owner, is_read_owner, is_forward_of, cache_is, out, shared, request_of, forward_of, has_class, listed, lists, take_row, is_case, same_who, keep_of}
 use Rattle.pg_terms.specs.Due.{same_kind, kind_is, forward_in, is_to_owner, is_passed_to, is_due, cases_at, same_case, is_due_case}
 use Rattle.pg_shape.specs.DirRules.{has_no_owner}
 use Rattle.pg_shape.specs.TakeRules.{invalidates_wrongly, shares_wrongly, keeps_wrongly, drops_wrongly, answers_wrongly, takes_wrongly, may_keep, keeps_moving}
-use Rattle.pg_shape.specs.RowRules.{is_not_due, is_reply, reads_by, writes_by, acts_wrongly}
+use Rattle.pg_shape.specs.RowRules.{is_reply, reads_by, writes_by, acts_wrongly}
 use Rattle.pg_shape.specs.ShapeFaults.{HasShape}
 use Rattle.pg_shape.specs.Shaped.{HasTakes, HasLists}
-use Rattle.pg_shape.proofs.Bools.{three_not, three_and, and_not, and_both, not_false, or_so, one_of}
-use Rattle.pg_shape.proofs.Searches.{any_get, any_at, find_get, position_get, some_of, map_or_get, not_true, not_both}
+use Rattle.pg_shape.proofs.Bools.{three_not, and_not, and_both, not_false, or_so}
+use Rattle.pg_shape.proofs.Searches.{any_get, any_at, find_get, position_get, some_of, not_both}
 use Rattle.pg_shape.proofs.Shaped.{take_keeps, row_keeps, is_one, due_has_take, due_class_of, same_case_self}
 
 -- the row of a pair is a take line for it, which breaks no rule

@@ -1,10 +1,8 @@
 -- What the shape gives: facts on the numbers of states and messages, each of which follows from rules that no line breaks. Whatever is said of
 -- protocols above is derived from these.
-use Rattle.std.specs.Prelude.{ℕ, ◌≡◌, ◌⊎◌, Bool, true, false, List, [], ◌∷◌, slice_get, Option, Some, None}
-use Rattle.std.specs.List.{list_any}
+use Rattle.std.specs.Prelude.{ℕ, ◌≡◌, ◌⊎◌, true, false, List, [], slice_get, Option, Some, None}
 use Rattle.pg_perm.specs.declared.kinds.Event.{Event}
 use Rattle.pg_perm.specs.declared.kinds.Event.TheVariants.{Load, Store, Evict}
-use Rattle.pg_perm.specs.declared.kinds.DirKind.{DirKind}
 use Rattle.pg_perm.specs.declared.kinds.DirKind.TheVariants as kind
 use Rattle.pg_perm.specs.declared.kinds.Who.{Who}
 use Rattle.pg_perm.specs.declared.kinds.Who.TheVariants.{Other, Sharer, Owner}
@@ -16,7 +14,6 @@ use Rattle.pg_perm.specs.declared.draft.Draft.{Draft}
 use Rattle.pg_perm.specs.declared.draft.CacheLine.{CacheLine}
 use Rattle.pg_perm.specs.declared.draft.DirLine.{DirLine}
 use Rattle.pg_perm.specs.declared.draft.CoreLine.{CoreLine}
-use Rattle.pg_perm.specs.declared.draft.CoreForm.{CoreForm}
 use Rattle.pg_perm.specs.declared.draft.CoreForm.TheVariants.{Hit, Ask, Leave}
 use Rattle.pg_perm.specs.declared.draft.Pair.{Pair}
 use Rattle.pg_perm.specs.declared.draft.ReplyName.{ReplyName}
@@ -30,7 +27,7 @@ use Rattle.pg_perm.specs.declared.draft.Action.TheVariants as action
 use Rattle.pg_terms.specs.declared.cases.DirCase.{DirCase}
 use Rattle.pg_terms.specs.declared.cases.DirCase.TheVariants as case
 use Rattle.pg_terms.specs.Terms.{is_out, is_shared, is_owner, is_none_perm, is_read_perm, is_read_owner, is_write_owner, cache_is, out, shared, request_of, forward_of, has_class, lists, core_row, take_row, dir_row, keep_of}
-use Rattle.pg_terms.specs.Due.{kind_is, forward_in, is_to_owner, is_due, is_due_case, is_load_reply, is_store_reply}
+use Rattle.pg_terms.specs.Due.{kind_is, forward_in, is_due, is_due_case, is_load_reply, is_store_reply}
 use Rattle.pg_shape.specs.DirRules.{has_no_owner}
 use Rattle.pg_shape.specs.CoreRules.{allows, is_hit, is_dirty_writer, stays, store_next, asks_class, is_from_cache}
 use Rattle.pg_shape.specs.TakeRules.{may_keep}
