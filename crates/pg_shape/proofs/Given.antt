@@ -16,8 +16,8 @@ shaped d w h = record {
   forwards = forwards d h;
   takes = takes d h (lists d h) (perms d h).start;
   rows = rows d h;
-  reads = reads d h;
-  writes = writes d h;
+  reads = reads d h (lists d h) (takes d h (lists d h) (perms d h).start) (cores d w h);
+  writes = writes d h (lists d h) (takes d h (lists d h) (perms d h).start) (rows d h) (cores d w h);
   evicts = evicts d h;
   cores = cores d w h;
 }

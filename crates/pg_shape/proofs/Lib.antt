@@ -11,3 +11,4 @@ pub mod Takes
 pub mod States
 pub mod Cores
 pub mod Given
+pub mod Finals

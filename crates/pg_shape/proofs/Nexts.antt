@@ -1,5 +1,6 @@
 -- Where row lines lead.
-use Rattle.std.proofs.Common.{◌≡◌, ℕ, ◌⊎◌, Bool, true, not, ◌&&◌, ◌||◌, List, Option, Some, None, refl, sym, subst, inl, inr}
+use Rattle.std.proofs.Common.{◌≡◌, ℕ, ◌⊎◌, Bool, true, not, ◌&&◌, ◌||◌, List, Option, Some, None, refl, sym, subst, inl, inr, ap, ◌∙◌}
+use Rattle.std.specs.Prelude.{slice_get}
 use Rattle.std.specs.Option.{option_and_then}
 use Rattle.pg_perm.proofs.Booleans.{both}
 use Rattle.pg_perm.specs.declared.kinds.Event.TheVariants.{Load, Store}
@@ -8,23 +9,36 @@ use Rattle.pg_perm.specs.declared.kinds.Who.{Who}
 use Rattle.pg_perm.specs.declared.kinds.Who.TheVariants.{Other, Sharer, Owner}
 use Rattle.pg_perm.specs.declared.kinds.Left.{Left}
 use Rattle.pg_perm.specs.declared.kinds.Left.TheVariants.{Last, More}
+use Rattle.pg_perm.specs.declared.kinds.ReqClass.{ReqClass}
 use Rattle.pg_perm.specs.declared.kinds.ReqClass.TheVariants.{Read, Write}
 use Rattle.pg_perm.specs.declared.kinds.FwdClass.TheVariants.{Share, Keep, Drop}
 use Rattle.pg_perm.specs.declared.draft.Draft.{Draft}
 use Rattle.pg_perm.specs.declared.draft.RowLine.{RowLine}
 use Rattle.pg_perm.specs.declared.draft.RowForm.{RowForm}
+use Rattle.pg_perm.specs.declared.draft.RowForm.TheVariants as form
 use Rattle.pg_perm.specs.declared.draft.Action.{Action}
 use Rattle.pg_perm.specs.declared.draft.Action.TheVariants as action
 use Rattle.pg_perm.specs.declared.fault.Rule.TheVariants.{S17}
 use Rattle.pg_terms.specs.declared.cases.DirCase.TheVariants as case
 use Rattle.pg_terms.specs.Terms.{is, is_owner, is_read_owner, cache_is, shared, request_of, has_class, listed, lists, dir_row, keep_of}
-use Rattle.pg_terms.specs.Due.{kind_is}
+use Rattle.pg_terms.specs.Due.{kind_is, forward_in}
 use Rattle.pg_shape.specs.NextRules.{final_of, reply_to, final_by, upgrade_of, lists_owner, is_read_end, is_shared_by, is_kept, is_owner_by, is_listed_by, is_upgrade_listed, are_shared, are_kept, are_owners, are_listed, are_upgraded, lists_each, leads_to_shared, leads_to_mixed, leads_to_owned, reads_rightly, lists_writer, writes_rightly, keeps_owner, leaves_rightly, evicts_rightly, leads_rightly}
 use Rattle.pg_shape.specs.ShapeFaults.{HasShape}
-use Rattle.pg_shape.specs.Shaped.{action_in, HasReads, HasWrites, HasEvicts}
+use Rattle.pg_shape.specs.Shaped.{action_in, HasLists, HasTakes, HasRows, HasReads, HasWrites, HasEvicts, HasCores}
 use Rattle.pg_shape.proofs.Bools.{three_and, not_false, one_of, where_so}
 use Rattle.pg_shape.proofs.Shaped.{row_keeps, is_one}
+use Rattle.pg_shape.proofs.Takes.{answered}
+use Rattle.pg_shape.proofs.Finals.{read_memory_ends, read_passed_ends, write_memory_ends, write_passed_ends, upgrade_ends}
 use Rattle.pg_shape.proofs.Rows.{Asked, asked, same_action, listed_all, row_at, evict_form, passing}
+
+-- the row of a request that is passed on is a row line that passes it on
+passed_at : (d : Draft) → HasShape d → (n : ℕ) (class : ReqClass) (w : Who) (r : RowLine) (f : ℕ) → dir_row d n (case.Ask class w) ≡ Some r
+    → action_in r.form ≡ Some (action.Forward f) → (k : ℕ) × (slice_get d.rows k ≡ Some r) × (r.dir ≡ n) × (forward_in r.form ≡ Some f)
+passed_at d h n class w r f e does =
+    let a = asked d h n class w r e in
+    let (k, g, dir, is_for) = row_at d n (case.Ask class w) r e in
+    let same : a.does ≡ action.Forward f = same_action d n class w r a (action.Forward f) does in
+    (k, g, dir, ap forward_in a.spelled ∙ ap (λ (x : Action). forward_in (form.Ask a.request w x)) same)
 
 -- a READ's row leads where its action says
 read_leads : (d : Draft) (n : ℕ) (w : Who) (r : RowLine) (a : Asked d n Read w r) (x : Action) → action_in r.form ≡ Some x → reads_rightly d r w x ≡ true
@@ -77,8 +91,13 @@ shared_by d n f x s r dir all at fin =
     let one : is_shared_by d Other f x ≡ true = listed_all (is_shared_by d Other f) d n x (at_dir d n (are_shared d Other f) r dir all) at in
     is_one (shared d) s (passing (is (shared d)) (final_by d Load Other f x) s one fin)
 
-pub reads : (d : Draft) → HasShape d → HasReads d
-reads d h = record {
+pub reads : (d : Draft) → HasShape d → HasLists d → HasTakes d → HasCores d → HasReads d
+reads d h l takes cores = record {
+  memory_final = read_memory_ends d h cores;
+  passed_final = λ n f x r e does at.
+      let (k, g, dir, passed) = passed_at d h n Read Other r f e does in
+      let (t, m, row, answer) = answered d h l takes n f x k r g dir passed at in
+      read_passed_ends d h takes cores n f x r t m e does row answer at;
   memory = read_memory d h;
   share = λ n f r e does class.
       let p = read_parts d h n f r e does in
@@ -143,8 +162,19 @@ write_passed d h n f x s Sharer r e does at fin =
     passing (lists d r.next) (final_by d Store Sharer f x) s (listed_all (is_listed_by d Sharer r.next f) d n x (at_dir d n (are_listed d Sharer r.next f) r p.0 p.1) at) fin
 write_passed d h n f x s Owner r e does at fin = absurd (no_final d (reply_to d x f) s fin)
 
-pub writes : (d : Draft) → HasShape d → HasWrites d
-writes d h = record { owned = write_owned d h; memory = write_memory d h; passed = write_passed d h; upgrade = upgraded }
+pub writes : (d : Draft) → HasShape d → HasLists d → HasTakes d → HasRows d → HasCores d → HasWrites d
+writes d h l takes rows cores = record {
+  owned = write_owned d h;
+  memory = write_memory d h;
+  passed = write_passed d h;
+  upgrade = upgraded;
+  memory_final = write_memory_ends d h l rows cores;
+  passed_final = λ n f x w r e does at.
+      let (k, g, dir, passed) = passed_at d h n Write w r f e does in
+      let (t, m, row, answer) = answered d h l takes n f x k r g dir passed at in
+      write_passed_ends d h l takes rows cores n f x w r t m e does row answer at;
+  upgrade_final = upgrade_ends d h cores;
+}
   where
     upgraded : (n x s : ℕ) (r : RowLine) → dir_row d n (case.Ask Write Owner) ≡ Some r → lists d n x ≡ true → cache_is is_read_owner d x ≡ true
         → upgrade_of d x ≡ Some s → lists d r.next s ≡ true

@@ -174,7 +174,7 @@ request_equal Clean Clean h = refl
 request_equal Dirty Dirty h = refl
 request_equal _ _ h = absurd cc
 
-who_same : (a : Who) → same_who a a ≡ true
+pub who_same : (a : Who) → same_who a a ≡ true
 who_same Other = refl
 who_same Sharer = refl
 who_same Owner = refl

@@ -31,7 +31,7 @@ use Rattle.pg_shape.specs.TakeRules.{invalidates_wrongly, shares_wrongly, keeps_
 use Rattle.pg_shape.specs.RowRules.{is_reply, reads_by, writes_by, acts_wrongly}
 use Rattle.pg_shape.specs.ShapeFaults.{HasShape}
 use Rattle.pg_shape.specs.Shaped.{HasTakes, HasLists}
-use Rattle.pg_shape.proofs.Bools.{three_not, and_not, and_both, not_false, or_so}
+use Rattle.pg_shape.proofs.Bools.{three_not, and_not, and_both, not_false, or_so, one_three}
 use Rattle.pg_shape.proofs.Searches.{any_get, any_at, find_get, position_get, some_of, not_both}
 use Rattle.pg_shape.proofs.Shaped.{take_keeps, row_keeps, is_one, due_has_take, due_class_of, same_case_self}
 
@@ -118,7 +118,7 @@ settled d h s t e may =
     last_not false b c h e g = absurd cc
 
 -- a directory state that lists a state has an owner
-has_owner : (d : Draft) → HasLists d → (n s : ℕ) → lists d n s ≡ true → (kind_is kind.Owned d n ≡ true) ⊎ (kind_is kind.Mixed d n ≡ true)
+pub has_owner : (d : Draft) → HasLists d → (n s : ℕ) → lists d n s ≡ true → (kind_is kind.Owned d n ≡ true) ⊎ (kind_is kind.Mixed d n ≡ true)
 has_owner d l n s at = by (slice_get d.dirs n) refl
   where
     empty : (x : DirLine) → slice_get d.dirs n ≡ Some x → has_no_owner x.kind ≡ true → ⊥
@@ -263,3 +263,19 @@ takes d h l start = record {
       (is_none-some t.reply parts.0, this_one (out d) start.0 t.next start.1 parts.1);
   settles = settled d h;
 }
+
+-- a listed owner answers what is passed on with a reply
+pub answered : (d : Draft) → HasShape d → HasLists d → HasTakes d → (n f x k : ℕ) (r : RowLine) → slice_get d.rows k ≡ Some r → r.dir ≡ n
+    → forward_in r.form ≡ Some f → lists d n x ≡ true → (t : TakeLine) × (m : ℕ) × (take_row d x f ≡ Some t) × (t.reply ≡ Some m)
+answered d h l takes n f x k r e dir passed at =
+    let (t, row) = takes.due x f (takes.passed n x f k r e dir passed at) in
+    of_three t row (to_owner d h n f k r e dir passed (has_owner d l n x at))
+  where
+    by_class : (t : TakeLine) → take_row d x f ≡ Some t → (has_class Share d f ≡ true) ⊎ ((has_class Keep d f ≡ true) ⊎ (has_class Drop d f ≡ true))
+        → (t : TakeLine) × (m : ℕ) × (take_row d x f ≡ Some t) × (t.reply ≡ Some m)
+    by_class t row (inl c) = let p = (takes.share x f t row c).0 in (t, p.0, row, p.1)
+    by_class t row (inr (inl c)) = let p = (takes.keep x f t row c).0 in (t, p.0, row, p.1)
+    by_class t row (inr (inr c)) = let p = (takes.drop x f t row c).0 in (t, p.0, row, p.1)
+
+    of_three : (t : TakeLine) → take_row d x f ≡ Some t → is_to_owner d f ≡ true → (t : TakeLine) × (m : ℕ) × (take_row d x f ≡ Some t) × (t.reply ≡ Some m)
+    of_three t row to = by_class t row (one_three (has_class Share d f) (has_class Keep d f) (has_class Drop d f) to)

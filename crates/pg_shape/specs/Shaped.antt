@@ -99,7 +99,7 @@ pub record HasRows (d : Draft) : Type 0 where
       → (f : ℕ) × (action_in r.form ≡ Some (action.Forward f)) × (has_class Drop d f ≡ true)
   pub upgrade : (n : ℕ) (r : RowLine) → dir_row d n (case.Ask Write Owner) ≡ Some r → action_in r.form ≡ Some action.Count
 
--- where a READ leads
+-- where a READ leads, and that it ends
 pub record HasReads (d : Draft) : Type 0 where
   pub memory : (n m s : ℕ) (r : RowLine) → dir_row d n (case.Ask Read Other) ≡ Some r → action_in r.form ≡ Some (action.Reply m) → final_of d Load Other m ≡ Some s
       → ((kind_is kind.Shared d r.next ≡ true) × (shared d ≡ Some s))
@@ -112,8 +112,12 @@ pub record HasReads (d : Draft) : Type 0 where
   pub drop : (n f : ℕ) (r : RowLine) → dir_row d n (case.Ask Read Other) ≡ Some r → action_in r.form ≡ Some (action.Forward f) → has_class Drop d f ≡ true
       → (kind_is kind.Owned d r.next ≡ true)
       × ((x s : ℕ) → lists d n x ≡ true → final_by d Load Other f x ≡ Some s → (lists d r.next s ≡ true) × (cache_is (λ c. is_owner c.role) d s ≡ true))
+  pub memory_final : (n m : ℕ) (r : RowLine) → dir_row d n (case.Ask Read Other) ≡ Some r → action_in r.form ≡ Some (action.Reply m)
+      → (s : ℕ) × (final_of d Load Other m ≡ Some s)
+  pub passed_final : (n f x : ℕ) (r : RowLine) → dir_row d n (case.Ask Read Other) ≡ Some r → action_in r.form ≡ Some (action.Forward f) → lists d n x ≡ true
+      → (s : ℕ) × (final_by d Load Other f x ≡ Some s)
 
--- where a WRITE leads
+-- where a WRITE leads, and that it ends
 pub record HasWrites (d : Draft) : Type 0 where
   pub owned : (n : ℕ) (w : Who) (r : RowLine) → dir_row d n (case.Ask Write w) ≡ Some r → kind_is kind.Owned d r.next ≡ true
   pub memory : (n m s : ℕ) (w : Who) (r : RowLine) → dir_row d n (case.Ask Write w) ≡ Some r → action_in r.form ≡ Some (action.Reply m)
@@ -122,6 +126,11 @@ pub record HasWrites (d : Draft) : Type 0 where
       → lists d n x ≡ true → final_by d Store w f x ≡ Some s → lists d r.next s ≡ true
   pub upgrade : (n x s : ℕ) (r : RowLine) → dir_row d n (case.Ask Write Owner) ≡ Some r → lists d n x ≡ true → cache_is is_read_owner d x ≡ true
       → upgrade_of d x ≡ Some s → lists d r.next s ≡ true
+  pub memory_final : (n m : ℕ) (w : Who) (r : RowLine) → dir_row d n (case.Ask Write w) ≡ Some r → action_in r.form ≡ Some (action.Reply m)
+      → (s : ℕ) × (final_of d Store w m ≡ Some s)
+  pub passed_final : (n f x : ℕ) (w : Who) (r : RowLine) → dir_row d n (case.Ask Write w) ≡ Some r → action_in r.form ≡ Some (action.Forward f) → lists d n x ≡ true
+      → (s : ℕ) × (final_by d Store w f x ≡ Some s)
+  pub upgrade_final : (x : ℕ) → cache_is is_read_owner d x ≡ true → (s : ℕ) × (upgrade_of d x ≡ Some s)
 
 -- where an evict leads
 pub record HasEvicts (d : Draft) : Type 0 where
