@@ -2,7 +2,7 @@
 use Rattle.std.specs.Prelude.{ℕ, ◌≡◌, ◌<◌, ◌≤◌, ◌⊎◌, List, codes}
 use Rattle.pg_perm.specs.declared.fault.Fault.{Fault}
 use Rattle.pg_perm.specs.declared.fault.Rule.{Rule}
-use Rattle.pg_perm.specs.declared.fault.Rule.TheVariants.{F1, F2, F3, F4, F5, F6, S1, S2, S3, S4, S5, S6, S7, S8, S9, S10, S11, S12, S13, S14, S15, S16, S17, S18, S19}
+use Rattle.pg_perm.specs.declared.fault.Rule.TheVariants.{F1, F2, F3, F4, F5, F6, S1, S2, S3, S4, S5, S6, S7, S8, S9, S10, S11, S12, S13, S14, S15, S16, S17, S18, S19, C1, C2, C3, C4, C5}
 
 -- how a rule is printed
 abbrev pub rule_name : Rule → List ℕ
@@ -31,6 +31,11 @@ rule_name S16 = codes "S16"
 rule_name S17 = codes "S17"
 rule_name S18 = codes "S18"
 rule_name S19 = codes "S19"
+rule_name C1 = codes "C1"
+rule_name C2 = codes "C2"
+rule_name C3 = codes "C3"
+rule_name C4 = codes "C4"
+rule_name C5 = codes "C5"
 
 -- the place of a rule among the rules
 abbrev pub rule_rank : Rule → ℕ
@@ -59,6 +64,11 @@ rule_rank S16 = 22
 rule_rank S17 = 23
 rule_rank S18 = 24
 rule_rank S19 = 25
+rule_rank C1 = 26
+rule_rank C2 = 27
+rule_rank C3 = 28
+rule_rank C4 = 29
+rule_rank C5 = 30
 
 -- a fault is no later than a line and a rule: by the line, and then by the rule
 abbrev pub IsNoLater : Fault → ℕ → Rule → Type 0

@@ -1,7 +1,8 @@
 ghost use Rattle.std.specs.Prelude.{◌≡◌};
 ghost use Rattle.pg_perm.specs.Rules.{rule_name};
 
-/// A rule that a line can break. F1 to F6 are of the form of a text, S1 to S19 of the shape of its protocol; docs/TEXT.md states them.
+/// A rule that a line can break. F1 to F6 are of the form of a text and S1 to S19 of the shape of its protocol, which docs/TEXT.md states;
+/// C1 to C5 are of a script, which docs/SCRIPTS.md states.
 #[derive(Clone, Copy, Debug, PartialEq, Eq)]
 pub enum Rule {
     F1,
@@ -29,6 +30,11 @@ pub enum Rule {
     S17,
     S18,
     S19,
+    C1,
+    C2,
+    C3,
+    C4,
+    C5,
 }
 
 impl Rule {
@@ -62,6 +68,11 @@ impl Rule {
             Rule::S17 => "S17",
             Rule::S18 => "S18",
             Rule::S19 => "S19",
+            Rule::C1 => "C1",
+            Rule::C2 => "C2",
+            Rule::C3 => "C3",
+            Rule::C4 => "C4",
+            Rule::C5 => "C5",
         }
     }
 }

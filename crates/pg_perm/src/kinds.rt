@@ -64,6 +64,21 @@ pub enum Event {
     Evict,
 }
 
+/// An operation of a core on a block, with the word that a store writes.
+#[derive(Clone, Copy, Debug, PartialEq, Eq)]
+pub enum Op {
+    Load,
+    Store(u32),
+    Evict,
+}
+
+/// An operation that reads or writes the block's word.
+#[derive(Clone, Copy, Debug, PartialEq, Eq)]
+pub enum Access {
+    Load,
+    Store(u32),
+}
+
 /// What the sender of a request is to the directory.
 #[derive(Clone, Copy, Debug, PartialEq, Eq)]
 pub enum Who {
@@ -80,4 +95,20 @@ pub enum Left {
     Last,
     /// Some are left.
     More,
+}
+
+/// What a generated cache does with a forward that its own transaction comes before.
+#[derive(Clone, Copy, Debug, PartialEq, Eq)]
+pub enum Mode {
+    /// It lets the forward wait until its own transaction is done.
+    Stall,
+    /// It takes the forward at once, and answers it when its own transaction is done.
+    Defer,
+}
+
+/// Where the transaction of a forward stands to the one that the cache has outstanding.
+#[derive(Clone, Copy, Debug, PartialEq, Eq)]
+pub enum Side {
+    Before,
+    After,
 }

@@ -1,4 +1,4 @@
-//! The types that the layers share: names, rules and faults, and the draft of a protocol as its text states it.
+//! The types that the layers share: names, rules and faults, the draft of a protocol as its text states it, and the steps of a history.
 //!
 //! All of it is plain data, which contracts see as its fields; a list of a draft is seen as a list and a name as its bytes.
 //! docs/TEXT.md has the form of the text that a draft comes from.
@@ -8,6 +8,7 @@ mod draft;
 mod fault;
 mod kinds;
 mod sequence;
+mod step;
 mod word;
 
 pub use draft::{
@@ -15,8 +16,11 @@ pub use draft::{
     MsgLine, Pair, Pairs, ReplyName, RowForm, RowLine, Rows, States, TakeLine, Takes,
 };
 pub use fault::{Fault, Rule};
-pub use kinds::{DirKind, Event, FwdClass, Left, Perm, ReqClass, Role, Who};
+pub use kinds::{
+    Access, DirKind, Event, FwdClass, Left, Mode, Op, Perm, ReqClass, Role, Side, Who,
+};
 pub use sequence::Sequence;
+pub use step::{Step, Steps};
 pub use word::{Word, is_name, is_state_name};
 
 #[cfg(test)]

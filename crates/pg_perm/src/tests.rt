@@ -37,5 +37,6 @@ fn lists(rt: HostRuntime) -> Result<(), Fail> {
     assert_eq!(rt; same.into_vec().len(), 2);
     assert_eq!(rt; Rule::F6.name(), "F6");
     assert_eq!(rt; Rule::S19.name(), "S19");
+    assert_eq!(rt; Rule::C5.name(), "C5");
     Ok(())
 }
