@@ -11,7 +11,7 @@ use Rattle.pg_perm.specs.declared.draft.TakeLine.{TakeLine}
 use Rattle.pg_perm.specs.declared.draft.RowLine.{RowLine}
 use Rattle.pg_perm.specs.declared.fault.Fault.{Fault}
 use Rattle.pg_perm.specs.declared.fault.Rule.{Rule}
-use Rattle.pg_perm.specs.declared.fault.Rule.TheVariants.{F1, F2, F3, F4, F5, F6}
+use Rattle.pg_perm.specs.declared.fault.Rule.TheVariants.{F1}
 use Rattle.pg_perm.specs.Rules.{IsNoLater}
 use Rattle.pg_perm.specs.Drafts.{is_rising}
 use Rattle.pg_shape.specs.TextRules.{text_breaks}
@@ -28,66 +28,31 @@ use Rattle.pg_shape.proofs.FirstRules.{IsOfShape, first_rule-some, first_rule-no
 
 pub text_of_shape : (d : Draft) → IsOfShape (text_breaks d)
 text_of_shape d F1 h = refl
-text_of_shape d F2 h = refl
-text_of_shape d F3 h = refl
-text_of_shape d F4 h = refl
-text_of_shape d F5 h = refl
-text_of_shape d F6 h = refl
-text_of_shape d _ h = absurd (omega (arith, h))
+text_of_shape d _ h = grind (arith, h)
 
 pub cache_of_shape : (d : Draft) (n : ℕ) (x : CacheLine) → IsOfShape (cache_breaks d n x)
 cache_of_shape d n x F1 h = refl
-cache_of_shape d n x F2 h = refl
-cache_of_shape d n x F3 h = refl
-cache_of_shape d n x F4 h = refl
-cache_of_shape d n x F5 h = refl
-cache_of_shape d n x F6 h = refl
-cache_of_shape d n x _ h = absurd (omega (arith, h))
+cache_of_shape d n x _ h = grind (arith, h)
 
 pub dir_of_shape : (d : Draft) (n : ℕ) (x : DirLine) → IsOfShape (dir_breaks d n x)
 dir_of_shape d n x F1 h = refl
-dir_of_shape d n x F2 h = refl
-dir_of_shape d n x F3 h = refl
-dir_of_shape d n x F4 h = refl
-dir_of_shape d n x F5 h = refl
-dir_of_shape d n x F6 h = refl
-dir_of_shape d n x _ h = absurd (omega (arith, h))
+dir_of_shape d n x _ h = grind (arith, h)
 
 pub message_of_shape : (d : Draft) (n : ℕ) (x : MsgLine) → IsOfShape (message_breaks d n x)
 message_of_shape d n x F1 h = refl
-message_of_shape d n x F2 h = refl
-message_of_shape d n x F3 h = refl
-message_of_shape d n x F4 h = refl
-message_of_shape d n x F5 h = refl
-message_of_shape d n x F6 h = refl
-message_of_shape d n x _ h = absurd (omega (arith, h))
+message_of_shape d n x _ h = grind (arith, h)
 
 pub core_of_shape : (d : Draft) (n : ℕ) (x : CoreLine) → IsOfShape (core_breaks d n x)
 core_of_shape d n x F1 h = refl
-core_of_shape d n x F2 h = refl
-core_of_shape d n x F3 h = refl
-core_of_shape d n x F4 h = refl
-core_of_shape d n x F5 h = refl
-core_of_shape d n x F6 h = refl
-core_of_shape d n x _ h = absurd (omega (arith, h))
+core_of_shape d n x _ h = grind (arith, h)
 
 pub take_of_shape : (d : Draft) (n : ℕ) (x : TakeLine) → IsOfShape (take_breaks d n x)
 take_of_shape d n x F1 h = refl
-take_of_shape d n x F2 h = refl
-take_of_shape d n x F3 h = refl
-take_of_shape d n x F4 h = refl
-take_of_shape d n x F5 h = refl
-take_of_shape d n x F6 h = refl
-take_of_shape d n x _ h = absurd (omega (arith, h))
+take_of_shape d n x _ h = grind (arith, h)
 
 pub row_of_shape : (d : Draft) (n : ℕ) (x : RowLine) → IsOfShape (row_breaks d n x)
 row_of_shape d n x F1 h = refl
-row_of_shape d n x F2 h = refl
-row_of_shape d n x F3 h = refl
-row_of_shape d n x F4 h = refl
-row_of_shape d n x F5 h = refl
-row_of_shape d n x F6 h = refl
-row_of_shape d n x _ h = absurd (omega (arith, h))
+row_of_shape d n x _ h = grind (arith, h)
 
 -- o is the first of the pairs, or there is none
 abbrev pub IsFirstOf : (ℕ → Rule → Type 0) → Option Fault → Type 0

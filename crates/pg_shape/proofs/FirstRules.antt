@@ -3,7 +3,6 @@ use Rattle.std.proofs.Common.{◌≡◌, ℕ, suc, ◌+◌, ◌<◌, ◌≤◌, 
 use Rattle.std.specs.Prelude.{find, cond}
 use Rattle.std.proofs.lemmas.Bool.{cases_lt}
 use Rattle.pg_perm.specs.declared.fault.Rule.{Rule}
-use Rattle.pg_perm.specs.declared.fault.Rule.TheVariants.{F1}
 use Rattle.pg_perm.specs.Rules.{rule_rank}
 use Rattle.pg_perm.proofs.Ranks.{same_rule}
 use Rattle.pg_shape.specs.FirstFaults.{shape_rules, first_rule}
@@ -16,9 +15,9 @@ IsFirst test R = (test R ≡ true) × ((Q : Rule) → test Q ≡ true → rule_r
 abbrev pub IsClean : (Rule → Bool) → Type 0
 IsClean test = (Q : Rule) → test Q ≡ false
 
--- no rule of the form of a text is broken
+-- no rule is broken that isn't of the shape
 abbrev pub IsOfShape : (Rule → Bool) → Type 0
-IsOfShape test = (Q : Rule) → rule_rank Q < 7 → test Q ≡ false
+IsOfShape test = (Q : Rule) → (rule_rank Q < 7) ⊎ (25 < rule_rank Q) → test Q ≡ false
 
 -- the places of these rules are n and those behind it
 abbrev Ranked : ℕ → List Rule → Type 0
@@ -27,10 +26,6 @@ Ranked n (R ∷ Rs) = (rule_rank R ≡ n) × Ranked (suc n) Rs
 
 ranks : Ranked 7 shape_rules
 ranks = (refl, (refl, (refl, (refl, (refl, (refl, (refl, (refl, (refl, (refl, (refl, (refl, (refl, (refl, (refl, (refl, (refl, (refl, (refl, tt)))))))))))))))))))
-
-last_rank : (R : Rule) → rule_rank R < 26
-last_rank F1 = omega arith
-last_rank _ = omega arith
 
 some_injective : {A : Type 0} (x y : A) → Some x ≡ Some y → x ≡ y
 some_injective x y e = cc e
@@ -89,7 +84,7 @@ first_rule-some test R of_shape e =
     (p.0, λ Q broken. at Q broken p (cases_lt (rule_rank Q) 7))
   where
     at : (Q : Rule) → test Q ≡ true → IsFirstFrom test 7 R → (rule_rank Q < 7) ⊎ (7 ≤ rule_rank Q) → rule_rank R ≤ rule_rank Q
-    at Q broken p (inl h) = absurd (not_broken (test Q) broken (of_shape Q h))
+    at Q broken p (inl h) = absurd (not_broken (test Q) broken (of_shape Q (inl h)))
     at Q broken p (inr h) = p.2 Q h broken
 
 -- where none is found, none is broken
@@ -97,5 +92,9 @@ pub first_rule-none : (test : Rule → Bool) → IsOfShape test → first_rule t
 first_rule-none test of_shape e Q = at (cases_lt (rule_rank Q) 7)
   where
     at : (rule_rank Q < 7) ⊎ (7 ≤ rule_rank Q) → test Q ≡ false
-    at (inl h) = of_shape Q h
-    at (inr h) = find_none test 7 shape_rules ranks e Q h (last_rank Q)
+    at (inl h) = of_shape Q (inl h)
+    at (inr h) = at_end (cases_lt 25 (rule_rank Q))
+      where
+        at_end : (25 < rule_rank Q) ⊎ (rule_rank Q ≤ 25) → test Q ≡ false
+        at_end (inl k) = of_shape Q (inr k)
+        at_end (inr k) = find_none test 7 shape_rules ranks e Q h (omega (arith, k))

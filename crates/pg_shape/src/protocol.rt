@@ -57,6 +57,7 @@ impl Protocol {
     /// The draft of which the protocol was made, with what the shape gives of it.
     pub fn draft(&self) -> &Draft
         ensures exact { result.now ≡ self.now }
+        ensures well_formed { IsWellFormed self.now }
         ensures shaped { IsShaped self.now }
     {
         &self.draft
