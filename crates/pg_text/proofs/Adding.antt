@@ -23,10 +23,10 @@ use Rattle.pg_perm.specs.declared.draft.RowLine.{RowLine}
 use Rattle.pg_perm.specs.declared.draft.RowForm.{RowForm}
 use Rattle.pg_perm.specs.declared.draft.RowForm.TheVariants as rows
 use Rattle.pg_perm.specs.Drafts.{taken_names, are_distinct, has_cache, has_core, has_take, has_row, pair_count}
-use Rattle.pg_text.specs.declared.line.Line.TheVariants as line
-use Rattle.pg_text.specs.Forms.{spelling, shape_words}
-use Rattle.pg_text.specs.Pairs.{words_in}
-use Rattle.pg_text.specs.Kinds.{kind_of, is_protocol, is_end}
+use Rattle.pg_forms.specs.declared.line.Line.TheVariants as line
+use Rattle.pg_forms.specs.Forms.{spelling, shape_words}
+use Rattle.pg_forms.specs.Pairs.{words_in}
+use Rattle.pg_forms.specs.Kinds.{kind_of, is_protocol, is_end}
 use Rattle.pg_text.specs.Numbering.{put_dir, put_core, put_take, put_row}
 use Rattle.pg_text.specs.Printing.{numbered, cache_name, pair_words, core_shape, cache_line_of, dir_line_of, message_line_of, core_line_of, take_line_of, row_line_of}
 use Rattle.pg_text.proofs.Parts.{Known}

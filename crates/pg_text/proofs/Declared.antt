@@ -30,14 +30,14 @@ use Rattle.pg_perm.specs.declared.kinds.Who.TheVariants.{Other, Sharer, Owner}
 use Rattle.pg_perm.specs.Classes.{is_request, is_forward, is_reply}
 use Rattle.pg_perm.specs.Drafts.{cache_names, dir_names, message_names, has_cache, has_dir, has_message, has_reply_name, has_pair}
 use Rattle.pg_perm.specs.Drafts.{has_core_form, has_core, has_take, has_action, has_row_form, has_row, pair_count}
-use Rattle.pg_text.specs.declared.line.CoreShape.{CoreShape}
-use Rattle.pg_text.specs.declared.line.CoreShape.TheVariants.{Hit, Ask, Leave}
-use Rattle.pg_text.specs.declared.line.RowShape.{RowShape}
-use Rattle.pg_text.specs.declared.line.RowShape.TheVariants as row
-use Rattle.pg_text.specs.Forms.{IsShapeOf, IsRowShape}
+use Rattle.pg_forms.specs.declared.line.CoreShape.{CoreShape}
+use Rattle.pg_forms.specs.declared.line.CoreShape.TheVariants.{Hit, Ask, Leave}
+use Rattle.pg_forms.specs.declared.line.RowShape.{RowShape}
+use Rattle.pg_forms.specs.declared.line.RowShape.TheVariants as row
+use Rattle.pg_forms.specs.Forms.{IsShapeOf, IsRowShape}
 use Rattle.pg_text.specs.Numbering.{cache_number, dir_number, message_number, reply_name, pair_of, pairs_of, core_form, core_of, states_of}
 use Rattle.pg_text.specs.Numbering.{take_reply, take_of, action_by_class, action_of, row_form, row_of}
-use Rattle.pg_text.proofs.Options.{then_some, told, mapped}
+use Rattle.pg_forms.proofs.Options.{then_some, told, mapped}
 
 -- a number of a cache state is that of one which is declared
 pub cache_found : (d : Draft) (w : List ℕ) (s : ℕ) → cache_number d w ≡ Some s → has_cache d s ≡ true

@@ -9,7 +9,7 @@ use Rattle.pg_perm.specs.Rules.{rule_rank, IsNoLater}
 use Rattle.pg_lines.specs.Lines.{lines_of, words_of, place_behind}
 use Rattle.pg_text.specs.FormFaults.{Above, nothing, breaks, after, ends, BreaksIn, IsFormFault}
 use Rattle.pg_text.specs.Texts.{judge, read_on, read_lines, reading, drafted, IsText}
-use Rattle.pg_text.proofs.Options.{same_err, same_ok}
+use Rattle.pg_forms.proofs.Options.{same_err, same_ok}
 use Rattle.pg_text.proofs.Judging.{IsFirst, IsClean, judge_first, judge_sound}
 
 -- no broken line has a number before that of the first line

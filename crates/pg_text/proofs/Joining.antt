@@ -3,8 +3,8 @@ use Rattle.std.proofs.Common.{◌≡◌, ℕ, List, [], ◌∷◌, ◌++◌, map
 use Rattle.std.specs.List.{join_by, join_with_byte, flat_map}
 use Rattle.std.specs.Borrow.{Bor}
 use Rattle.pg_lines.specs.Lines.{line_text, text_of}
-use Rattle.pg_text.specs.declared.line.Line.{Line}
-use Rattle.pg_text.specs.Forms.{spelling}
+use Rattle.pg_forms.specs.declared.line.Line.{Line}
+use Rattle.pg_forms.specs.Forms.{spelling}
 
 -- a word, and the others behind spaces
 joined_from : (w : List ℕ) (ws : List (Bor (List ℕ))) → w ++ flat_map (λ v. 32 ∷ v.now) ws ≡ join_with_byte 32 (w ∷ map (λ v. v.now) ws)

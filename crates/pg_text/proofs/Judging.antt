@@ -5,15 +5,15 @@ use Rattle.pg_perm.specs.declared.draft.Draft.{Draft}
 use Rattle.pg_perm.specs.declared.fault.Rule.{Rule}
 use Rattle.pg_perm.specs.declared.fault.Rule.TheVariants.{F1, F2, F3, F4, F5}
 use Rattle.pg_perm.specs.Rules.{rule_rank}
-use Rattle.pg_text.specs.declared.line.Kind.{Kind}
-use Rattle.pg_text.specs.declared.line.Line.{Line}
+use Rattle.pg_forms.specs.declared.line.Kind.{Kind}
+use Rattle.pg_forms.specs.declared.line.Line.{Line}
 use Rattle.pg_lines.specs.Lines.{words_of}
-use Rattle.pg_text.specs.Kinds.{kind_of}
-use Rattle.pg_text.specs.Reading.{line_of}
+use Rattle.pg_forms.specs.Kinds.{kind_of}
+use Rattle.pg_forms.specs.Reading.{line_of}
 use Rattle.pg_text.specs.Numbering.{with_line, is_taken, is_full}
 use Rattle.pg_text.specs.FormFaults.{Above, is_out_of_order, breaks, below, after}
 use Rattle.pg_text.specs.Texts.{judged, judge}
-use Rattle.pg_text.proofs.Options.{same_err, same_ok}
+use Rattle.pg_forms.proofs.Options.{same_err, same_ok}
 
 -- what is judged of a line of this kind, from the answers to F2 to F5
 abbrev outcome : Kind → Bool → Bool → Option Draft → Bool → Result Above Rule

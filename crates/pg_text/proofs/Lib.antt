@@ -1,8 +1,5 @@
-pub mod Firsts
 pub mod Joining
 pub mod Numbers
-pub mod Options
-pub mod Spellings
 pub mod Judging
 pub mod Faults
 pub mod Progress

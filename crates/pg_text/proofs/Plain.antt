@@ -25,13 +25,13 @@ use Rattle.pg_perm.specs.declared.kinds.Left.TheVariants as left
 use Rattle.pg_perm.specs.declared.kinds.Event.{Event}
 use Rattle.pg_perm.specs.declared.kinds.Event.TheVariants.{Load, Store, Evict}
 use Rattle.pg_perm.specs.declared.draft.MsgClass.TheVariants.{Request, Forward, Reply}
-use Rattle.pg_text.specs.Pairs.{words_in, is_named_pair}
-use Rattle.pg_text.specs.declared.line.Line.{Line}
-use Rattle.pg_text.specs.declared.line.Line.TheVariants.{Protocol, Cache, Dir, Message, Core, Take, Row, End}
-use Rattle.pg_text.specs.declared.line.RowShape.TheVariants as row
-use Rattle.pg_text.specs.declared.line.CoreShape.{CoreShape}
-use Rattle.pg_text.specs.declared.line.CoreShape.TheVariants.{Hit, Ask, Leave}
-use Rattle.pg_text.specs.Forms.{role_word, perm_word, request_word, event_word, dir_word, forward_word, who_word, left_word, shape_words, spelling, IsShapeOf, IsWellNamed}
+use Rattle.pg_forms.specs.Pairs.{words_in, is_named_pair}
+use Rattle.pg_forms.specs.declared.line.Line.{Line}
+use Rattle.pg_forms.specs.declared.line.Line.TheVariants.{Protocol, Cache, Dir, Message, Core, Take, Row, End}
+use Rattle.pg_forms.specs.declared.line.RowShape.TheVariants as row
+use Rattle.pg_forms.specs.declared.line.CoreShape.{CoreShape}
+use Rattle.pg_forms.specs.declared.line.CoreShape.TheVariants.{Hit, Ask, Leave}
+use Rattle.pg_forms.specs.Forms.{role_word, perm_word, request_word, event_word, dir_word, forward_word, who_word, left_word, shape_words, spelling, IsShapeOf, IsWellNamed}
 
 -- a word that may be written
 abbrev pub is_word : List ℕ → Bool

@@ -15,13 +15,13 @@ use Rattle.pg_perm.specs.declared.draft.CoreLine.{CoreLine}
 use Rattle.pg_perm.specs.declared.draft.TakeLine.{TakeLine}
 use Rattle.pg_perm.specs.declared.fault.Fault.{Fault}
 use Rattle.pg_perm.specs.Drafts.{IsWellFormed}
-use Rattle.pg_text.specs.declared.line.Kind.{Kind}
-use Rattle.pg_text.specs.declared.line.Kind.TheVariants as kind
-use Rattle.pg_text.specs.declared.line.Line.{Line}
-use Rattle.pg_text.specs.declared.line.Line.TheVariants.{Protocol, End}
+use Rattle.pg_forms.specs.declared.line.Kind.{Kind}
+use Rattle.pg_forms.specs.declared.line.Kind.TheVariants as kind
+use Rattle.pg_forms.specs.declared.line.Line.{Line}
+use Rattle.pg_forms.specs.declared.line.Line.TheVariants.{Protocol, End}
 use Rattle.pg_text.specs.FormFaults.{nothing, no_draft}
-use Rattle.pg_text.specs.Forms.{spelling}
-use Rattle.pg_text.specs.Kinds.{rank_of}
+use Rattle.pg_forms.specs.Forms.{spelling}
+use Rattle.pg_forms.specs.Kinds.{rank_of}
 use Rattle.pg_text.specs.Printing.{numbered, cache_line_of, dir_line_of, message_line_of, core_line_of, take_line_of, row_line_of, lines_in, printed, renumbered}
 use Rattle.pg_text.specs.Texts.{read_lines, placed, reading}
 use Rattle.pg_text.proofs.Plain.{is_word, are_words, spelling_words}

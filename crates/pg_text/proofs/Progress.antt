@@ -5,17 +5,17 @@ use Rattle.std.specs.Option.{option_map_or}
 use Rattle.pg_perm.specs.declared.draft.Draft.{Draft}
 use Rattle.pg_perm.specs.declared.fault.Rule.{Rule}
 use Rattle.pg_perm.specs.declared.fault.Rule.TheVariants.{F2}
-use Rattle.pg_text.specs.declared.line.Line.{Line}
+use Rattle.pg_forms.specs.declared.line.Line.{Line}
 use Rattle.pg_text.specs.declared.error.LineError.{LineError}
 use Rattle.pg_text.specs.declared.error.LineError.TheVariants as error
 use Rattle.pg_text.specs.Answers.{Judges, Gives, text_error}
-use Rattle.pg_text.specs.Kinds.{is_end, kind_of}
-use Rattle.pg_text.specs.Reading.{line_of}
+use Rattle.pg_forms.specs.Kinds.{is_end, kind_of}
+use Rattle.pg_forms.specs.Reading.{line_of}
 use Rattle.pg_lines.specs.Lines.{words_of, lines_of, first_line, behind}
 use Rattle.pg_text.specs.FormFaults.{Above, nothing, ends, is_out_of_order}
 use Rattle.pg_text.specs.Texts.{judge, judged, declared, with_kind, if_short, placed, read_lines, read_on, has_ended_by, reading}
 use Rattle.pg_lines.proofs.Steps.{lines_of-first, length-rest, behind-more}
-use Rattle.pg_text.proofs.Options.{same_ok}
+use Rattle.pg_forms.proofs.Options.{same_ok}
 
 -- the lines before were read, and rest is behind them
 pub record IsReadSoFar (bytes rest : List ℕ) (before : ℕ) (above : Above) : Type 0 where

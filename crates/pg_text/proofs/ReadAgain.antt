@@ -14,18 +14,18 @@ use Rattle.pg_perm.specs.declared.draft.MsgClass.TheVariants as class
 use Rattle.pg_perm.specs.declared.fault.Fault.{Fault}
 use Rattle.pg_perm.specs.Classes.{class_rank}
 use Rattle.pg_perm.specs.Drafts.{is_ordered}
-use Rattle.pg_text.specs.declared.line.Kind.{Kind}
-use Rattle.pg_text.specs.declared.line.Line.{Line}
-use Rattle.pg_text.specs.declared.line.Line.TheVariants as line
+use Rattle.pg_forms.specs.declared.line.Kind.{Kind}
+use Rattle.pg_forms.specs.declared.line.Line.{Line}
+use Rattle.pg_forms.specs.declared.line.Line.TheVariants as line
 use Rattle.pg_text.specs.FormFaults.{Above, is_out_of_order, ends}
-use Rattle.pg_text.specs.Forms.{spelling, IsWellNamed}
-use Rattle.pg_text.specs.Kinds.{kind_of, rank_of, is_protocol, is_end}
+use Rattle.pg_forms.specs.Forms.{spelling, IsWellNamed}
+use Rattle.pg_forms.specs.Kinds.{kind_of, rank_of, is_protocol, is_end}
 use Rattle.pg_text.specs.Numbering.{with_line, is_taken, is_full}
 use Rattle.pg_text.specs.Printing.{numbered, message_line_of}
-use Rattle.pg_text.specs.Reading.{line_of}
+use Rattle.pg_forms.specs.Reading.{line_of}
 use Rattle.pg_text.specs.Texts.{judge, judged, read_lines, read_on}
 use Rattle.pg_text.proofs.Plain.{is_word, are_words, spelling_words}
-use Rattle.pg_text.proofs.Spellings.{spelled}
+use Rattle.pg_forms.proofs.Spellings.{spelled}
 
 -- a line as it stands in a text, without its newline
 abbrev pub written : Line → List ℕ

@@ -4,11 +4,11 @@ use Rattle.std.specs.Prelude.{◌||◌, nat_lt, is_none, unwrap_or}
 use Rattle.std.proofs.lemmas.Bool.{or_parts}
 use Rattle.pg_perm.specs.declared.draft.Draft.{Draft}
 use Rattle.pg_perm.specs.declared.fault.Rule.TheVariants.{F1, F2, F3, F4, F5}
-use Rattle.pg_text.specs.declared.line.Line.{Line}
+use Rattle.pg_forms.specs.declared.line.Line.{Line}
 use Rattle.pg_lines.specs.Lines.{words_of}
-use Rattle.pg_text.specs.Kinds.{kind_of}
+use Rattle.pg_forms.specs.Kinds.{kind_of}
 use Rattle.pg_text.specs.Numbering.{with_line, is_taken, is_full}
-use Rattle.pg_text.specs.Reading.{line_of}
+use Rattle.pg_forms.specs.Reading.{line_of}
 use Rattle.pg_text.specs.FormFaults.{Above, is_out_of_order, breaks, below, after}
 use Rattle.pg_text.specs.Texts.{judge}
 use Rattle.pg_text.proofs.Judging.{IsClean, judge_sound}

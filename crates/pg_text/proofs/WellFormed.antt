@@ -23,22 +23,22 @@ use Rattle.pg_perm.specs.Names.{is_name, is_state_name}
 use Rattle.pg_perm.specs.Classes.{class_rank}
 use Rattle.pg_perm.specs.Drafts.{cache_names, dir_names, message_names, rule_lines, taken_names, are_distinct, has_cache, has_core, has_take, has_row}
 use Rattle.pg_perm.specs.Drafts.{is_ordered, is_rising, line_numbers, pair_count, IsWellFormed}
-use Rattle.pg_text.specs.declared.line.Kind.{Kind}
-use Rattle.pg_text.specs.declared.line.Line.{Line}
-use Rattle.pg_text.specs.declared.line.Line.TheVariants.{Protocol, Cache, Dir, Message, Core, Take, Row, End}
-use Rattle.pg_text.specs.declared.line.CoreShape.{CoreShape}
-use Rattle.pg_text.specs.declared.line.CoreShape.TheVariants.{Hit, Ask, Leave}
+use Rattle.pg_forms.specs.declared.line.Kind.{Kind}
+use Rattle.pg_forms.specs.declared.line.Line.{Line}
+use Rattle.pg_forms.specs.declared.line.Line.TheVariants.{Protocol, Cache, Dir, Message, Core, Take, Row, End}
+use Rattle.pg_forms.specs.declared.line.CoreShape.{CoreShape}
+use Rattle.pg_forms.specs.declared.line.CoreShape.TheVariants.{Hit, Ask, Leave}
 use Rattle.pg_text.specs.declared.error.TextError.{TextError}
 use Rattle.pg_lines.specs.Lines.{lines_of, words_of, place_behind}
 use Rattle.pg_text.specs.Answers.{Gives}
-use Rattle.pg_text.specs.Kinds.{rank_of, is_protocol, kind_of}
-use Rattle.pg_text.specs.Pairs.{words_in}
-use Rattle.pg_text.specs.Forms.{spelling, shape_words, IsWellNamed}
+use Rattle.pg_forms.specs.Kinds.{rank_of, is_protocol, kind_of}
+use Rattle.pg_forms.specs.Pairs.{words_in}
+use Rattle.pg_forms.specs.Forms.{spelling, shape_words, IsWellNamed}
 use Rattle.pg_text.specs.Numbering.{states_of, core_of, take_of, row_of, with_line, is_taken, is_full}
 use Rattle.pg_text.specs.FormFaults.{Above, nothing, no_draft, is_out_of_order, ends}
 use Rattle.pg_text.specs.Texts.{judge, read_on, read_lines, reading}
-use Rattle.pg_text.proofs.Options.{mapped, same_ok}
-use Rattle.pg_text.proofs.Spellings.{found}
+use Rattle.pg_forms.proofs.Options.{mapped, same_ok}
+use Rattle.pg_forms.proofs.Spellings.{found}
 use Rattle.pg_text.proofs.TakenIn.{IsTakenIn, taken_in}
 use Rattle.pg_lines.proofs.Weaker.{all_weaker}
 use Rattle.pg_text.proofs.Growing.{one_more, all_behind, all_of_none}

@@ -6,11 +6,11 @@ use Rattle.pg_perm.specs.declared.fault.Fault.{Fault}
 use Rattle.pg_perm.specs.declared.fault.Rule.{Rule}
 use Rattle.pg_perm.specs.declared.fault.Rule.TheVariants.{F1, F2, F3, F4, F5, F6}
 use Rattle.pg_perm.specs.Rules.{IsNoLater}
-use Rattle.pg_text.specs.declared.line.Kind.{Kind}
-use Rattle.pg_text.specs.declared.line.Line.{Line}
+use Rattle.pg_forms.specs.declared.line.Kind.{Kind}
+use Rattle.pg_forms.specs.declared.line.Line.{Line}
 use Rattle.pg_lines.specs.Lines.{lines_of, words_of}
-use Rattle.pg_text.specs.Kinds.{rank_of, is_protocol, is_end, kind_of}
-use Rattle.pg_text.specs.Reading.{line_of}
+use Rattle.pg_forms.specs.Kinds.{rank_of, is_protocol, is_end, kind_of}
+use Rattle.pg_forms.specs.Reading.{line_of}
 use Rattle.pg_text.specs.Numbering.{with_line, is_taken, is_full}
 
 -- the lines above a line: the kind of the one just above, where it is in a form, and what they declare

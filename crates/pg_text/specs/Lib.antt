@@ -1,7 +1,3 @@
-pub mod Pairs
-pub mod Forms
-pub mod Reading
-pub mod Kinds
 pub mod Tables
 pub mod Numbering
 pub mod FormFaults

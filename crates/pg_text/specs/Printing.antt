@@ -19,13 +19,13 @@ use Rattle.pg_perm.specs.declared.draft.Action.{Action}
 use Rattle.pg_perm.specs.declared.draft.Action.TheVariants as action
 use Rattle.pg_perm.specs.Drafts.{cache_names, dir_names, message_names}
 use Rattle.pg_lines.specs.Lines.{text_of}
-use Rattle.pg_text.specs.declared.line.Line.{Line}
-use Rattle.pg_text.specs.declared.line.Line.TheVariants.{Protocol, Cache, Dir, Message, Core, Take, Row, End}
-use Rattle.pg_text.specs.declared.line.CoreShape.{CoreShape}
-use Rattle.pg_text.specs.declared.line.CoreShape.TheVariants.{Hit, Ask, Leave}
-use Rattle.pg_text.specs.declared.line.RowShape.{RowShape}
-use Rattle.pg_text.specs.declared.line.RowShape.TheVariants as row
-use Rattle.pg_text.specs.Forms.{spelling}
+use Rattle.pg_forms.specs.declared.line.Line.{Line}
+use Rattle.pg_forms.specs.declared.line.Line.TheVariants.{Protocol, Cache, Dir, Message, Core, Take, Row, End}
+use Rattle.pg_forms.specs.declared.line.CoreShape.{CoreShape}
+use Rattle.pg_forms.specs.declared.line.CoreShape.TheVariants.{Hit, Ask, Leave}
+use Rattle.pg_forms.specs.declared.line.RowShape.{RowShape}
+use Rattle.pg_forms.specs.declared.line.RowShape.TheVariants as row
+use Rattle.pg_forms.specs.Forms.{spelling}
 
 -- the name with this number; a number past the last has no name
 abbrev pub name_of : List (List ℕ) → ℕ → List ℕ

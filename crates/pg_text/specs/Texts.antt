@@ -5,11 +5,11 @@ use Rattle.pg_perm.specs.declared.draft.Draft.{Draft}
 use Rattle.pg_perm.specs.declared.fault.Fault.{Fault}
 use Rattle.pg_perm.specs.declared.fault.Rule.{Rule}
 use Rattle.pg_perm.specs.declared.fault.Rule.TheVariants.{F1, F2, F3, F4, F5, F6}
-use Rattle.pg_text.specs.declared.line.Kind.{Kind}
-use Rattle.pg_text.specs.declared.line.Line.{Line}
+use Rattle.pg_forms.specs.declared.line.Kind.{Kind}
+use Rattle.pg_forms.specs.declared.line.Line.{Line}
 use Rattle.pg_lines.specs.Lines.{lines_of, words_of, place_behind}
-use Rattle.pg_text.specs.Kinds.{kind_of, is_end}
-use Rattle.pg_text.specs.Reading.{line_of}
+use Rattle.pg_forms.specs.Kinds.{kind_of, is_end}
+use Rattle.pg_forms.specs.Reading.{line_of}
 use Rattle.pg_text.specs.Numbering.{with_line, is_taken, is_full}
 use Rattle.pg_text.specs.FormFaults.{Above, nothing, is_out_of_order, ends, after, Breaks}
 

@@ -8,9 +8,7 @@ ghost use Rattle.pg_text.specs.FormFaults.{no_draft};
 ghost use Rattle.pg_text.specs.Numbering as draft;
 
 use crate::error::LineError;
-use crate::line::{CoreShape, Line, RowShape};
-use crate::pairs::NamePairs;
-use crate::states::StateNames;
+use pg_forms::{CoreShape, Line, NamePairs, RowShape, StateNames};
 use pg_names::Names;
 use pg_perm::{
     Action, CacheLine, CoreForm, CoreLine, DirKind, DirLine, Draft, Event, MsgClass, MsgLine, Pair,

@@ -1,5 +1,5 @@
 ghost use Rattle.std.specs.Prelude.{◌≡◌};
-ghost use Rattle.pg_text.specs.Forms.{role_word as word_of_role, perm_word as word_of_perm, request_word as word_of_request, event_word as word_of_event, dir_word as word_of_dir, forward_word as word_of_forward, who_word as word_of_who, left_word as word_of_left};
+ghost use Rattle.pg_forms.specs.Forms.{role_word as word_of_role, perm_word as word_of_perm, request_word as word_of_request, event_word as word_of_event, dir_word as word_of_dir, forward_word as word_of_forward, who_word as word_of_who, left_word as word_of_left};
 
 use pg_perm::{DirKind, Event, FwdClass, Left, Perm, ReqClass, Role, Who};
 

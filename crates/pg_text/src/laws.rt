@@ -5,21 +5,13 @@ ghost use Rattle.pg_perm.specs.declared.draft.Draft.{Draft};
 ghost use Rattle.pg_perm.specs.declared.fault.Fault.{Fault};
 ghost use Rattle.pg_perm.specs.Drafts.{IsWellFormed};
 ghost use Rattle.pg_lines.specs.Lines.{lines_of, words_of, place_behind};
-ghost use Rattle.pg_text.specs.declared.line.Line.{Line};
-ghost use Rattle.pg_text.specs.Forms.{spelling, IsWellNamed};
+ghost use Rattle.pg_forms.specs.Forms.{spelling};
 ghost use Rattle.pg_text.specs.FormFaults.{IsFormFault};
-ghost use Rattle.pg_text.specs.Reading.{line_of};
 ghost use Rattle.pg_text.specs.Texts.{reading, IsText};
 ghost use Rattle.pg_text.specs.Printing.{lines_in, printed, renumbered};
 ghost use Rattle.pg_text.specs.Worked.{worked_draft};
 
 use pg_perm::Rule;
-
-/// A line is in a form exactly where it is the spelling of a well-named value, of which it then is the only one.
-pub fn forms_are_exact()
-    ensures found { (ws : List (List ℕ)) (l : Line) → line_of ws ≡ Some l → (ws ≡ spelling l) × IsWellNamed l }
-    ensures spelled { (l : Line) → IsWellNamed l → line_of (spelling l) ≡ Some l }
-{}
 
 /// Reading answers a fault exactly where it is the first one of the text, and a draft with a place exactly where no line breaks a rule,
 /// the draft is what the lines declare, and the place is behind the end line.

@@ -5,19 +5,13 @@ mod drafting;
 mod error;
 mod keywords;
 mod laws;
-mod line;
-mod pairs;
 mod printer;
 mod reader;
-mod reading;
 mod spelled;
-mod states;
 mod text;
 
 pub use error::TextError;
-pub use laws::{
-    first_fault_is_exact, forms_are_exact, lines_are_kept, printing_is_exact, worked_texts,
-};
+pub use laws::{first_fault_is_exact, lines_are_kept, printing_is_exact, worked_texts};
 pub use printer::print;
 pub use text::read;
 

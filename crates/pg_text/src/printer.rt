@@ -2,7 +2,7 @@ ghost use Rattle.std.specs.Prelude.{◌≡◌, map, IfOk, Ok, length, ◌++◌, 
 ghost use Rattle.std.specs.String.{string_bytes};
 ghost use Rattle.pg_lines.specs.Lines.{line_text, text_of};
 ghost use Rattle.pg_perm.specs.Drafts.{IsWellFormed};
-ghost use Rattle.pg_text.specs.Forms.{spelling};
+ghost use Rattle.pg_forms.specs.Forms.{spelling};
 ghost use Rattle.pg_text.specs.Printing.{printed, renumbered};
 ghost use Rattle.pg_text.specs.Texts.{reading};
 

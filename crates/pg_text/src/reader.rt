@@ -5,8 +5,7 @@ ghost use Rattle.pg_text.specs.Texts.{judge, has_ended_by};
 
 use crate::drafting::Drafting;
 use crate::error::LineError;
-use crate::line::Kind;
-use crate::reading::line_of;
+use pg_forms::{Kind, line_of};
 use pg_lines::Words;
 use pg_perm::{Draft, Rule};
 use std::alloc::Global;

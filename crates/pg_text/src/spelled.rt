@@ -1,8 +1,8 @@
 ghost use Rattle.std.specs.Prelude.{◌≡◌, map, IfOk, [], ◌∷◌, ◌++◌};
 ghost use Rattle.pg_perm.specs.declared.draft.Draft.{Draft};
-ghost use Rattle.pg_text.specs.declared.line.Line.{Line};
-ghost use Rattle.pg_text.specs.Forms.{spelling, shape_words};
-ghost use Rattle.pg_text.specs.Pairs.{words_in};
+ghost use Rattle.pg_forms.specs.declared.line.Line.{Line};
+ghost use Rattle.pg_forms.specs.Forms.{spelling, shape_words};
+ghost use Rattle.pg_forms.specs.Pairs.{words_in};
 ghost use Rattle.pg_text.specs.Printing as text;
 
 use crate::keywords::{

@@ -1,8 +1,8 @@
 use Rattle.std.proofs.Common.{◌≡◌, ℕ, List, [], ◌∷◌, ◌++◌, map, codes, ap, sym, ◌∙◌, append-nil}
 use Rattle.std.specs.String.{string_bytes}
 use Rattle.pg_lines.specs.Lines.{line_text}
-use Rattle.pg_text.specs.declared.line.Line.{Line}
-use Rattle.pg_text.specs.declared.line.Line.TheVariants.{Protocol, End}
+use Rattle.pg_forms.specs.declared.line.Line.{Line}
+use Rattle.pg_forms.specs.declared.line.Line.TheVariants.{Protocol, End}
 use Rattle.pg_text.specs.Printing.{printed, cache_line_of, dir_line_of, message_line_of, core_line_of, take_line_of, row_line_of}
 use Rattle.pg_text.proofs.Joining.{lines_put}
 use Rattle.pg_text.proofs.Printed.{bytes_read, bytes_short}

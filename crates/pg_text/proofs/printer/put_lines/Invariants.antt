@@ -1,7 +1,7 @@
 use Rattle.std.proofs.Common.{◌≡◌, map, ◌++◌, length}
 use Rattle.std.specs.String.{string_bytes}
 use Rattle.pg_lines.specs.Lines.{text_of}
-use Rattle.pg_text.specs.Forms.{spelling}
+use Rattle.pg_forms.specs.Forms.{spelling}
 use Rattle.pg_text.proofs.printer.put_lines.Given as goal
 
 abbrev pub invariant-loop-line : goal.invariant-loop-line

@@ -1,5 +1,5 @@
 use Rattle.std.proofs.Common.{◌≡◌, map, ◌++◌, length}
-use Rattle.pg_text.specs.Pairs.{words_in}
+use Rattle.pg_forms.specs.Pairs.{words_in}
 use Rattle.pg_text.specs.Printing as text
 use Rattle.pg_text.proofs.spelled.put_pairs.Given as goal
 

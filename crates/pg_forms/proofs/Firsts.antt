@@ -4,7 +4,7 @@ use Rattle.pg_perm.proofs.Booleans.{both}
 use Rattle.pg_perm.specs.Names.{is_name, is_state_name}
 use Rattle.pg_lines.specs.Lines.{first_rest}
 use Rattle.pg_lines.proofs.Firsts.{first_rest_is}
-use Rattle.pg_text.specs.Pairs.{are_pairs}
+use Rattle.pg_forms.specs.Pairs.{are_pairs}
 
 -- behind a reply and a final state the rest answers for all
 pub pairs_behind : (left rest behind : List (List ℕ)) (reply fin : List ℕ) → Some (reply, rest) ≡ first_rest left → Some (fin, behind) ≡ first_rest rest

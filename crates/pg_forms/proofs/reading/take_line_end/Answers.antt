@@ -1,7 +1,7 @@
 use Rattle.std.proofs.Common.{sym, ap, ◌∙◌}
-use Rattle.pg_text.specs.Reading.{take_line_end}
+use Rattle.pg_forms.specs.Reading.{take_line_end}
 use Rattle.pg_lines.proofs.Firsts.{two_firsts}
-use Rattle.pg_text.proofs.reading.take_line_end.Goals as goal
+use Rattle.pg_forms.proofs.reading.take_line_end.Goals as goal
 
 pub returns-in-None-first : goal.returns-in-None-first
 returns-in-None-first c =

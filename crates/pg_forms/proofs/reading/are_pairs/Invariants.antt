@@ -1,6 +1,6 @@
 use Rattle.std.proofs.Common.{◌≡◌, length}
-use Rattle.pg_text.specs.Pairs.{are_pairs}
-use Rattle.pg_text.proofs.reading.are_pairs.Given as goal
+use Rattle.pg_forms.specs.Pairs.{are_pairs}
+use Rattle.pg_forms.proofs.reading.are_pairs.Given as goal
 
 -- what is left answers for all
 abbrev pub invariant-loop-reply : goal.invariant-loop-reply

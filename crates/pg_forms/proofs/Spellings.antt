@@ -23,22 +23,22 @@ use Rattle.pg_perm.specs.declared.kinds.Event.{Event}
 use Rattle.pg_perm.specs.declared.kinds.Event.TheVariants.{Load, Store, Evict}
 use Rattle.pg_perm.specs.declared.draft.MsgClass.TheVariants.{Request, Forward, Reply}
 use Rattle.pg_perm.proofs.Booleans.{both}
-use Rattle.pg_text.specs.declared.line.Line.{Line}
-use Rattle.pg_text.specs.declared.line.Line.TheVariants.{Protocol, Cache, Dir, Message, Core, Take, Row, End}
-use Rattle.pg_text.specs.declared.line.RowShape.{RowShape}
-use Rattle.pg_text.specs.declared.line.RowShape.TheVariants as row
-use Rattle.pg_text.specs.declared.line.CoreShape.{CoreShape}
-use Rattle.pg_text.specs.declared.line.CoreShape.TheVariants.{Hit, Ask, Leave}
+use Rattle.pg_forms.specs.declared.line.Line.{Line}
+use Rattle.pg_forms.specs.declared.line.Line.TheVariants.{Protocol, Cache, Dir, Message, Core, Take, Row, End}
+use Rattle.pg_forms.specs.declared.line.RowShape.{RowShape}
+use Rattle.pg_forms.specs.declared.line.RowShape.TheVariants as row
+use Rattle.pg_forms.specs.declared.line.CoreShape.{CoreShape}
+use Rattle.pg_forms.specs.declared.line.CoreShape.TheVariants.{Hit, Ask, Leave}
 use Rattle.pg_lines.specs.Lines.{first_rest}
-use Rattle.pg_text.specs.Forms.{role_word, perm_word, request_word, event_word, dir_word, forward_word, who_word, left_word}
-use Rattle.pg_text.specs.Forms.{shape_words, spelling, IsShapeOf, IsRowShape, IsWellNamed}
+use Rattle.pg_forms.specs.Forms.{role_word, perm_word, request_word, event_word, dir_word, forward_word, who_word, left_word}
+use Rattle.pg_forms.specs.Forms.{shape_words, spelling, IsShapeOf, IsRowShape, IsWellNamed}
 use Rattle.std.specs.List.{list_all}
-use Rattle.pg_text.specs.Pairs.{are_pairs, pairs_in, words_in, is_named_pair}
-use Rattle.pg_text.specs.Reading.{role_of, perm_of, request_of, dir_kind_of, forward_of, who_of, holder_of, left_of, event_of}
-use Rattle.pg_text.specs.Reading.{name_at, state_at, ended, protocol_line, clean_of}
-use Rattle.pg_text.specs.Reading.{cache_line, dir_line, request_line, forward_line, reply_line, asking_shape, leaving_shape, shape_of, core_line}
-use Rattle.pg_text.specs.Reading.{take_line_end, take_line, asking_row, evicting_row, row_shape, row_line, end_line, line_after, line_of}
-use Rattle.pg_text.proofs.Options.{then_some, told, told_apart, same_word, other_word, nothing_found}
+use Rattle.pg_forms.specs.Pairs.{are_pairs, pairs_in, words_in, is_named_pair}
+use Rattle.pg_forms.specs.Reading.{role_of, perm_of, request_of, dir_kind_of, forward_of, who_of, holder_of, left_of, event_of}
+use Rattle.pg_forms.specs.Reading.{name_at, state_at, ended, protocol_line, clean_of}
+use Rattle.pg_forms.specs.Reading.{cache_line, dir_line, request_line, forward_line, reply_line, asking_shape, leaving_shape, shape_of, core_line}
+use Rattle.pg_forms.specs.Reading.{take_line_end, take_line, asking_row, evicting_row, row_shape, row_line, end_line, line_after, line_of}
+use Rattle.pg_forms.proofs.Options.{then_some, told, told_apart, same_word, other_word, nothing_found}
 use Rattle.pg_lines.proofs.Firsts.{first_rest_is}
 
 -- a word that is read as a role is the word of that role

@@ -1,5 +1,5 @@
-use Rattle.pg_text.proofs.Firsts.{pairs_go_on}
-use Rattle.pg_text.proofs.pairs.NamePairs.first.Goals as goal
+use Rattle.pg_forms.proofs.Firsts.{pairs_go_on}
+use Rattle.pg_forms.proofs.pairs.NamePairs.first.Goals as goal
 
 pub invariant_of-result : goal.invariant_of-result
 invariant_of-result c =

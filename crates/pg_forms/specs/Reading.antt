@@ -19,14 +19,14 @@ use Rattle.pg_perm.specs.declared.kinds.Left.TheVariants as left
 use Rattle.pg_perm.specs.declared.kinds.Event.{Event}
 use Rattle.pg_perm.specs.declared.kinds.Event.TheVariants.{Load, Store, Evict}
 use Rattle.pg_perm.specs.declared.draft.MsgClass.TheVariants.{Request, Forward, Reply}
-use Rattle.pg_text.specs.declared.line.Line.{Line}
-use Rattle.pg_text.specs.declared.line.Line.TheVariants.{Protocol, Cache, Dir, Message, Core, Take, Row, End}
-use Rattle.pg_text.specs.declared.line.RowShape.{RowShape}
-use Rattle.pg_text.specs.declared.line.RowShape.TheVariants as row
-use Rattle.pg_text.specs.declared.line.CoreShape.{CoreShape}
-use Rattle.pg_text.specs.declared.line.CoreShape.TheVariants.{Hit, Ask, Leave}
+use Rattle.pg_forms.specs.declared.line.Line.{Line}
+use Rattle.pg_forms.specs.declared.line.Line.TheVariants.{Protocol, Cache, Dir, Message, Core, Take, Row, End}
+use Rattle.pg_forms.specs.declared.line.RowShape.{RowShape}
+use Rattle.pg_forms.specs.declared.line.RowShape.TheVariants as row
+use Rattle.pg_forms.specs.declared.line.CoreShape.{CoreShape}
+use Rattle.pg_forms.specs.declared.line.CoreShape.TheVariants.{Hit, Ask, Leave}
 use Rattle.pg_lines.specs.Lines.{first_rest}
-use Rattle.pg_text.specs.Pairs.{are_pairs, pairs_in}
+use Rattle.pg_forms.specs.Pairs.{are_pairs, pairs_in}
 
 -- what the value of an option leads to
 infixl 10 ◌>>=◌

@@ -1,7 +1,7 @@
 use Rattle.std.proofs.Common.{◌≡◌, length}
 use Rattle.std.specs.List.{list_all}
 use Rattle.pg_perm.specs.Names.{is_state_name}
-use Rattle.pg_text.proofs.reading.are_states.Given as goal
+use Rattle.pg_forms.proofs.reading.are_states.Given as goal
 
 -- what is left answers for all
 abbrev pub invariant-loop-name : goal.invariant-loop-name

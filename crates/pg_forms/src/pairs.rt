@@ -1,5 +1,5 @@
 ghost use Rattle.std.specs.Prelude.{◌≡◌, IsTrue};
-ghost use Rattle.pg_text.specs.Pairs.{are_pairs, pairs_in, first_pair};
+ghost use Rattle.pg_forms.specs.Pairs.{are_pairs, pairs_in, first_pair};
 
 use pg_lines::Words;
 use pg_perm::Word;
@@ -13,7 +13,7 @@ pub struct NamePairs<'a> {
 
 impl<'a> Model for NamePairs<'a> {
     ghost use Rattle.std.specs.Prelude.{List, ℕ, IsTrue};
-    ghost use Rattle.pg_text.specs.Pairs.{are_pairs, pairs_in};
+    ghost use Rattle.pg_forms.specs.Pairs.{are_pairs, pairs_in};
 
     ghost Value = { List (List ℕ × List ℕ) };
 

@@ -2,8 +2,8 @@ ghost use Rattle.std.specs.Prelude.{◌≡◌};
 ghost use Rattle.std.specs.List.{list_all};
 ghost use Rattle.std.specs.Option.{option_map};
 ghost use Rattle.pg_perm.specs.Names.{is_state_name as is_state_name_of};
-ghost use Rattle.pg_text.specs.Pairs.{are_pairs as are_pairs_of};
-ghost use Rattle.pg_text.specs.Reading as forms;
+ghost use Rattle.pg_forms.specs.Pairs.{are_pairs as are_pairs_of};
+ghost use Rattle.pg_forms.specs.Reading as forms;
 
 use crate::line::{CoreShape, Line, RowShape};
 use crate::pairs::NamePairs;

@@ -1,6 +1,6 @@
 use Rattle.std.proofs.Common.{sym, ◌∙◌}
-use Rattle.pg_text.proofs.Firsts.{pairs_behind}
-use Rattle.pg_text.proofs.reading.are_pairs.Goals as goal
+use Rattle.pg_forms.proofs.Firsts.{pairs_behind}
+use Rattle.pg_forms.proofs.reading.are_pairs.Goals as goal
 
 pub loop-reply-preserved : goal.loop-reply-preserved
 loop-reply-preserved c =

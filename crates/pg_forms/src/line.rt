@@ -1,5 +1,5 @@
 ghost use Rattle.std.specs.Prelude.{◌≡◌};
-ghost use Rattle.pg_text.specs.Kinds.{kind_of, rank_of, is_protocol, is_end};
+ghost use Rattle.pg_forms.specs.Kinds.{kind_of, rank_of, is_protocol, is_end};
 
 use crate::pairs::NamePairs;
 use crate::states::StateNames;

@@ -1,5 +1,5 @@
-use Rattle.pg_text.proofs.Spellings.{found, spelled}
-use Rattle.pg_text.proofs.laws.forms_are_exact.Goals as goal
+use Rattle.pg_forms.proofs.Spellings.{found, spelled}
+use Rattle.pg_forms.proofs.laws.forms_are_exact.Goals as goal
 
 pub returns-clause-found : goal.returns-clause-found
 returns-clause-found c = found

@@ -1,9 +1,9 @@
 use Rattle.std.specs.Prelude.{ℕ, Bool, true, false}
 use Rattle.pg_perm.specs.declared.draft.MsgClass.TheVariants as class
-use Rattle.pg_text.specs.declared.line.Kind.{Kind}
-use Rattle.pg_text.specs.declared.line.Kind.TheVariants.{Protocol, Cache, Dir, Request, Forward, Reply, Core, Take, Row, End}
-use Rattle.pg_text.specs.declared.line.Line.{Line}
-use Rattle.pg_text.specs.declared.line.Line.TheVariants as line
+use Rattle.pg_forms.specs.declared.line.Kind.{Kind}
+use Rattle.pg_forms.specs.declared.line.Kind.TheVariants.{Protocol, Cache, Dir, Request, Forward, Reply, Core, Take, Row, End}
+use Rattle.pg_forms.specs.declared.line.Line.{Line}
+use Rattle.pg_forms.specs.declared.line.Line.TheVariants as line
 
 -- the place of a kind in the order of a text
 abbrev pub rank_of : Kind → ℕ

@@ -1,0 +1,4 @@
+pub mod Pairs
+pub mod Forms
+pub mod Reading
+pub mod Kinds
