@@ -1,0 +1,33 @@
+ghost use Rattle.std.specs.Prelude.{◌≡◌};
+ghost use Rattle.pg_race.specs.Sides as sides;
+
+use pg_perm::{Event, FwdClass, Role, Side};
+
+fn side_of_start(start: Role, class: FwdClass) -> Side
+    ensures { result ≡ sides.side_of_start start class }
+{
+    match start {
+        Role::Out => Side::After,
+        Role::Shared if class == FwdClass::Inv => Side::Before,
+        Role::Shared => Side::After,
+        Role::Owner => Side::Before,
+    }
+}
+
+/// Where the transaction of a forward of this class stands to the operation that a cache has outstanding, which began in a state of the role
+/// `start`.
+///
+/// It is `granted` once data or a count was taken for it, or a forward that comes after it; an acknowledgement grants nothing. docs/MODEL.md has
+/// the order and why it is so.
+pub fn order(start: Role, event: Event, granted: bool, class: FwdClass) -> Side
+    requires { sides.IsOutstanding start event granted }
+    ensures { result ≡ sides.side start event granted class }
+{
+    if granted {
+        return Side::After;
+    }
+    match event {
+        Event::Load | Event::Store => side_of_start(start, class),
+        Event::Evict => Side::Before,
+    }
+}
