@@ -1,0 +1,17 @@
+pub mod Members
+pub mod Facts
+pub mod Start
+pub mod Afters
+pub mod Handling
+pub mod Forwards
+pub mod Answerers
+pub mod Grants
+pub mod Cores
+pub mod Holders
+pub mod DirKinds
+pub mod DueRows
+pub mod OfKind
+pub mod SoundAfter
+pub mod WhoAfter
+pub mod Untouched
+pub mod Handled
