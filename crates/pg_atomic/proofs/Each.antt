@@ -1,0 +1,102 @@
+-- The list of the states of all cores, from their numbers.
+use Rattle.std.proofs.Common.{◌≡◌, ◌≢◌, ℕ, zero, suc, ◌+◌, ◌<◌, ◌≤◌, Bool, true, false, List, [], ◌∷◌, length, get_or, set, Some, refl, sym, ap, subst, ◌∙◌, arith, add-zero, zero-add}
+use Rattle.std.specs.Prelude.{◌==◌, IsSome}
+use Rattle.std.proofs.lemmas.Bool.{eq-eqb, eqb-true, eqb-false}
+use Rattle.std.proofs.lemmas.List.{ext_get_or, get_or-set_same, get_or-set_other, length-set}
+use Rattle.std.proofs.lemmas.List.Edits.{fill_by_more}
+use Rattle.pg_perm.specs.declared.draft.Draft.{Draft}
+use Rattle.pg_terms.specs.Terms.{take_row}
+use Rattle.pg_standing.specs.Standings.{Request}
+use Rattle.pg_standing.specs.Sends.{sent}
+use Rattle.pg_atomic.specs.States.{State, state_of, taken, moved, ends_at, each_from, transact}
+use Rattle.pg_atomic.specs.Safe.{HasItsRows}
+
+pub length-each : (f : ℕ → ℕ → ℕ) (i : ℕ) (xs : List ℕ) → length (each_from f i xs) ≡ length xs
+length-each f i [] = refl
+length-each f i (x ∷ xs) = ap suc (length-each f (i + 1) xs)
+
+-- the state of the core k places behind the first
+get_or-each : (f : ℕ → ℕ → ℕ) (i k : ℕ) (xs : List ℕ) → k < length xs → get_or (each_from f i xs) k 0 ≡ f (i + k) (get_or xs k 0)
+get_or-each f i k [] h = absurd (omega (arith, h))
+get_or-each f i zero (x ∷ xs) h = ap (λ n. f n x) (sym (add-zero i))
+get_or-each f i (suc k) (x ∷ xs) h =
+    let next : (i + 1) + k ≡ i + suc k = omega arith in
+    get_or-each f (i + 1) k xs (omega (arith, h)) ∙ ap (λ n. f n (get_or xs k 0)) next
+
+-- a list that has each state is that list
+each_is : (f : ℕ → ℕ → ℕ) (xs ys : List ℕ) → length ys ≡ length xs → ((k : ℕ) → k < length xs → get_or ys k 0 ≡ f k (get_or xs k 0)) → ys ≡ each_from f 0 xs
+each_is f xs ys same h = ext_get_or 0 ys (each_from f 0 xs) (same ∙ sym (length-each f 0 xs)) (λ k b.
+    let inside : k < length xs = omega (arith, b, same) in
+    let first : 0 + k ≡ k = omega arith in
+    h k inside ∙ sym (get_or-each f 0 k xs inside ∙ ap (λ n. f n (get_or xs k 0)) first))
+
+-- the states below a number have moved, and nothing else has
+pub record HasMoved (f : ℕ → ℕ → ℕ) (a b : State) (i : ℕ) : Type 0 where
+  pub home : b.home ≡ a.home
+  pub word : b.word ≡ a.word
+  pub cores : length b.states ≡ length a.states
+  pub moved : (k : ℕ) → k < i → get_or b.states k 0 ≡ f k (get_or a.states k 0)
+  pub waiting : (k : ℕ) → i ≤ k → get_or b.states k 0 ≡ get_or a.states k 0
+
+pub one_moves : (f : ℕ → ℕ → ℕ) (a b : State) (i x : ℕ) → HasMoved f a b i → i < length b.states → x ≡ f i (get_or a.states i 0)
+    → HasMoved f a (record b { states = set b.states i x }) (i + 1)
+one_moves f a b i x before inside e = record {
+  home = before.home;
+  word = before.word;
+  cores = length-set b.states i x ∙ before.cores;
+  moved = subst (λ y. (k : ℕ) → k < i + 1 → get_or (set b.states i y) k 0 ≡ f k (get_or a.states k 0)) (sym e)
+      (fill_by_more (λ k. f k (get_or a.states k 0)) b.states i 0 inside before.moved);
+  waiting = λ k h. get_or-set_other b.states i k x 0 (λ q. omega arith) ∙ before.waiting k (omega arith);
+}
+
+pub all_moved : (f : ℕ → ℕ → ℕ) (a b : State) (i : ℕ) → HasMoved f a b i → length a.states ≤ i → b ≡ record a { states = each_from f 0 a.states }
+all_moved f a b i before past =
+    let moved : b.states ≡ each_from f 0 a.states = each_is f a.states b.states before.cores (λ k h. before.moved k (omega arith)) in
+    ap (λ xs. record b { states = xs }) moved ∙ ap (λ s. record b { states = each_from f 0 a.states; home = s }) before.home
+    ∙ ap (λ w. record a { states = each_from f 0 a.states; word = w }) before.word
+
+-- where a request leads a core that hasn't moved yet is where it led it at first
+pub leads_as_first : (d : Draft) (q : Request) (f : ℕ → ℕ → ℕ) (a b : State) (i : ℕ) → HasMoved f a b i → taken d b.home q i (state_of b i) ≡ taken d a.home q i (state_of a i)
+leads_as_first d q f a b i before =
+    ap (λ s. taken d s q i (state_of b i)) before.home ∙ ap (taken d a.home q i) (before.waiting i (omega arith))
+
+-- it has the row for its forward that it had at first
+pub has_its_row : (d : Draft) (q : Request) (f : ℕ → ℕ → ℕ) (a b : State) (i : ℕ) → HasItsRows d a q → HasMoved f a b i
+    → (m : ℕ) → sent d b.home q i ≡ Some m → IsSome (take_row d (state_of b i) m)
+has_its_row d q f a b i rows before m e =
+    let (t, at) = rows.takes i m (ap (λ s. sent d s q i) (sym before.home) ∙ e) in
+    subst (λ x. IsSome (take_row d x m)) (sym (before.waiting i (omega arith))) (subst IsSome (sym at) refl)
+
+-- who asks moves to the state in which it ends
+at_asker : (d : Draft) (a : State) (q : Request) (x : ℕ) → moved d a q q.core x ≡ ends_at d a q.core q.event
+at_asker d a q x = let same : (q.core == q.core) ≡ true = eq-eqb q.core q.core refl in rw same refl
+
+-- a whole transaction: the others take their forwards, and who asks ends
+pub asker_moves : (d : Draft) (a : State) (q : Request) → q.core < length a.states
+    → set (each_from (taken d a.home q) 0 a.states) q.core (ends_at d a q.core q.event) ≡ each_from (moved d a q) 0 a.states
+asker_moves d a q inside =
+    let others : List ℕ = each_from (taken d a.home q) 0 a.states in
+    let end : ℕ = ends_at d a q.core q.event in
+    let cores : length others ≡ length a.states = length-each (taken d a.home q) 0 a.states in
+    each_is (moved d a q) a.states (set others q.core end) (length-set others q.core end ∙ cores) (λ k h. at k h (q.core == k) refl)
+  where
+    at : (k : ℕ) → k < length a.states → (b : Bool) → (q.core == k) ≡ b
+        → get_or (set (each_from (taken d a.home q) 0 a.states) q.core (ends_at d a q.core q.event)) k 0 ≡ moved d a q k (get_or a.states k 0)
+    at k h true e =
+        let same : q.core ≡ k = eqb-true q.core k e in
+        let length_others = length-each (taken d a.home q) 0 a.states in
+        subst (λ n. get_or (set (each_from (taken d a.home q) 0 a.states) q.core (ends_at d a q.core q.event)) n 0 ≡ moved d a q n (get_or a.states n 0)) same
+        (get_or-set_same (each_from (taken d a.home q) 0 a.states) q.core (ends_at d a q.core q.event) 0 (omega (arith, inside, length_others))
+        ∙ sym (at_asker d a q (get_or a.states q.core 0)))
+    at k h false e =
+        let apart : k ≢ q.core = λ g. eqb-false q.core k e (sym g) in
+        get_or-set_other (each_from (taken d a.home q) 0 a.states) q.core k (ends_at d a q.core q.event) 0 apart
+        ∙ get_or-each (taken d a.home q) 0 k a.states h ∙ (rw e (ap (λ n. taken d a.home q n (get_or a.states k 0)) (zero-add k)))
+
+pub length-transact : (d : Draft) (a : State) (q : Request) → length (transact d a q).states ≡ length a.states
+length-transact d a q = length-each (moved d a q) 0 a.states
+
+-- after a transaction who asks is in the state in which it ends
+pub asker_ends : (d : Draft) (a : State) (q : Request) → q.core < length a.states → state_of (transact d a q) q.core ≡ ends_at d a q.core q.event
+asker_ends d a q inside =
+    get_or-each (moved d a q) 0 q.core a.states inside ∙ ap (λ n. moved d a q n (state_of a q.core)) (zero-add q.core) ∙ at_asker d a q (state_of a q.core)

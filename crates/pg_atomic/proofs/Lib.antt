@@ -1,0 +1,12 @@
+pub mod Cores
+pub mod Fits
+pub mod Legal
+pub mod Transactions
+pub mod Accesses
+pub mod Reached
+pub mod Operations
+pub mod Marked
+pub mod Starts
+pub mod Runs
+pub mod Each
+pub mod Homes

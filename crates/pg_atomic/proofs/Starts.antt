@@ -1,0 +1,35 @@
+-- The idle directory state is there, and how a machine starts.
+use Rattle.std.proofs.Common.{◌≡◌, ℕ, Bool, false, List, [], replicate, Option, Some, None, refl, sym, ap, ◌∙◌}
+use Rattle.std.specs.Prelude.{IsSome, position, unwrap_or}
+use Rattle.std.specs.List.{list_any}
+use Rattle.pg_perm.specs.declared.draft.Draft.{Draft}
+use Rattle.pg_perm.specs.declared.draft.DirLine.{DirLine}
+use Rattle.pg_perm.specs.declared.kinds.DirKind.TheVariants as kind
+use Rattle.pg_terms.specs.Terms.{out}
+use Rattle.pg_terms.specs.Due.{same_kind}
+use Rattle.pg_shape.specs.Shaped.{IsShaped}
+use Rattle.pg_shape.proofs.Searches.{map_or_get, any_at, position_none, not_both}
+use Rattle.pg_standing.specs.Standings.{Standing, start}
+use Rattle.pg_atomic.specs.States.{State, out_state, opening}
+use Rattle.pg_atomic.specs.Marks.{marked}
+use Rattle.pg_atomic.proofs.Marked.{none_from}
+
+abbrev is_idle : DirLine → Bool
+is_idle l = same_kind kind.Idle l.kind
+
+pub has_idle : (d : Draft) (o : Option ℕ) → IsShaped d → o ≡ position is_idle d.dirs → IsSome o
+has_idle d (Some i) shaped e = refl
+has_idle d None shaped e =
+    let (n, is_kind) = shaped.lists.idle in
+    let (l, at, passes) = map_or_get is_idle _ is_kind in
+    absurd (not_both (list_any is_idle d.dirs) (any_at is_idle d.dirs n l at passes) (position_none is_idle d.dirs (sym e)))
+
+-- the state of which the parts are those of the start is the start
+pub opens : (d : Draft) (n o i : ℕ) (xs : List ℕ) (marks : List Bool) → out d ≡ Some o → xs ≡ replicate n o → marks ≡ replicate n false → i ≡ (start d).dir
+    → let made : State = record { states = xs; home = record { dir = i; owner = None; sharers = marked marks }; word = 0 } in made ≡ opening d n
+opens d n o i xs marks first states clear idle =
+    let each : xs ≡ replicate n (out_state d) = states ∙ ap (λ x. replicate n (unwrap_or x 0)) (sym first) in
+    let none : marked marks ≡ [] = ap marked clear ∙ none_from n 0 in
+    ap (λ (ys : List ℕ). record { states = ys; home = record { dir = i; owner = None; sharers = marked marks }; word = 0 }) each
+    ∙ ap (λ (s : Standing). record { states = replicate n (out_state d); home = s; word = 0 })
+    (ap (λ (j : ℕ). record { dir = j; owner = None; sharers = marked marks }) idle ∙ ap (λ (cs : List ℕ). record (start d) { sharers = cs }) none)

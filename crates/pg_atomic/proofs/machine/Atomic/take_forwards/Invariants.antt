@@ -1,0 +1,6 @@
+use Rattle.pg_atomic.specs.States.{taken}
+use Rattle.pg_atomic.proofs.Each.{HasMoved}
+use Rattle.pg_atomic.proofs.machine.Atomic.take_forwards.Given as goal
+
+abbrev pub invariant-loop-to : goal.invariant-loop-to
+invariant-loop-to l = HasMoved (taken l.draft l.initial.self.home (record { core = l.core; event = l.event })) l.initial.self l.self l.to

@@ -1,0 +1,6 @@
+pub mod Marks
+pub mod States
+pub mod Steps
+pub mod Scripts
+pub mod Safe
+pub mod Accesses

@@ -1,0 +1,365 @@
+ghost use Rattle.std.specs.Prelude.{ℕ, ◌≡◌, ◌≢◌, ◌<◌, ◌≤◌, true, length, IfOk, Some, IsSome};
+ghost use Rattle.std.specs.Option.{option_and_then};
+ghost use Rattle.pg_perm.specs.declared.step.Step.TheVariants as step;
+ghost use Rattle.pg_standing.specs.Standings as standings;
+ghost use Rattle.pg_standing.specs.Sends.{sent, sent_by};
+ghost use Rattle.pg_standing.specs.Requests as requests;
+ghost use Rattle.pg_shape.specs.NextRules as next_rule;
+ghost use Rattle.pg_terms.specs.Terms as term;
+ghost use Rattle.pg_perm.specs.Drafts.{IsWellFormed};
+ghost use Rattle.pg_shape.specs.Shaped.{IsShaped, action_in};
+ghost use Rattle.pg_atomic.specs.States as states;
+ghost use Rattle.pg_atomic.specs.Steps as steps;
+ghost use Rattle.pg_atomic.specs.Accesses as accesses;
+ghost use Rattle.pg_atomic.specs.Safe.{HasItsRows};
+
+use crate::{marks, rows};
+use pg_perm::{Access, Action, DirKind, Draft, Event, FwdClass, ReplyName, ReqClass, RowLine, Who};
+use pg_shape::Protocol;
+use pg_terms as terms;
+use pg_terms::DirCase;
+use std::alloc::{AllocError, Global};
+use std::marker::Model;
+
+/// The atomic machine of one block: the stable state of each core, what the directory knows, and the block's word.
+///
+/// Contracts see a state of the machine, docs/MODEL.md has its steps. The calls that take a protocol ask that it is the one with which the
+/// machine was made: that the state is one which a run of its machine reaches.
+#[derive(Debug, Drop)]
+pub struct Atomic {
+    /// The state of each core.
+    states: Vec<u8>,
+    dir: u8,
+    owner: Option<u32>,
+    /// A mark for each core that shares.
+    sharing: Vec<bool>,
+    word: u32,
+}
+
+impl Model for Atomic {
+    ghost use Rattle.std.specs.Prelude.{◌≡◌, length};
+    ghost use Rattle.pg_atomic.specs.States.{State};
+    ghost use Rattle.pg_atomic.specs.Marks.{marked};
+
+    ghost Value = { State };
+
+    ghost view = { λ a. record { states = a.states.items; home = record { dir = a.dir; owner = a.owner; sharers = marked a.sharing.items }; word = a.word } };
+
+    ghost invariant = { λ a. length a.sharing.items ≡ length a.states.items };
+}
+
+/// Where a transaction led: the state of the core that asked, and that of the directory.
+#[derive(Clone, Copy, Debug, PartialEq, Eq)]
+pub struct TxnAnswer {
+    pub state: u8,
+    pub dir: u8,
+}
+
+impl Atomic {
+    /// The machine of a block at first: no core holds it, and its word is 0.
+    pub fn make(alloc: Global, protocol: &Protocol, cores: u32) -> Result<Atomic, AllocError>
+        requires some { 1 ≤ cores }
+        requires few { cores ≤ 64 }
+        ensures opens { IfOk result (λ a. a ≡ states.opening protocol.now cores) }
+        ensures reached { IfOk result (λ a. steps.IsReached protocol.now cores a) }
+    {
+        let draft = protocol.draft();
+        let cores = cores as usize;
+        Ok(Atomic {
+            states: vec![in alloc; rows::out(draft); cores]?,
+            dir: rows::idle(draft),
+            owner: None,
+            sharing: vec![in alloc; false; cores]?,
+            word: 0,
+        })
+    }
+
+    /// Whether a core has the permission for a load or a store, or has something to evict.
+    pub fn may(&self, protocol: &Protocol, core: u32, event: Event) -> bool
+        requires core { core < length self.now.states }
+        requires reached { steps.IsReached protocol.now (length self.now.states) self.now }
+        ensures { result ≡ steps.may protocol.now (states.state_of self.now core) event }
+    {
+        rows::may(protocol.draft(), self.states[core as usize], event)
+    }
+
+    /// Makes a whole transaction of a core as one step: for a load or a store for which it lacks the permission, or to evict what it holds.
+    pub fn txn(&mut self, protocol: &Protocol, core: u32, event: Event) -> TxnAnswer
+        requires core { core < length self.old.states }
+        requires reached { steps.IsReached protocol.now (length self.old.states) self.old }
+        requires needs { steps.needs protocol.now (states.state_of self.old core) event ≡ true }
+        ensures step { self.new ≡ steps.after_step protocol.now self.old (step.Txn core event) }
+        ensures reached { steps.IsReached protocol.now (length self.old.states) self.new }
+        ensures cores { length self.new.states ≡ length self.old.states }
+        ensures permits { event ≢ Event.Evict → steps.may protocol.now (states.state_of self.new core) event ≡ true }
+        ensures state { result.state ≡ states.state_of self.new core }
+        ensures dir { result.dir ≡ self.new.home.dir }
+    {
+        let state = self.transact(protocol.draft(), core, event);
+        TxnAnswer {
+            state,
+            dir: self.dir,
+        }
+    }
+
+    /// Loads or stores, by a core that has the permission, and gives the word that was loaded or stored.
+    pub fn access(&mut self, protocol: &Protocol, core: u32, access: Access) -> u32
+        requires core { core < length self.old.states }
+        requires reached { steps.IsReached protocol.now (length self.old.states) self.old }
+        requires may { steps.may protocol.now (states.state_of self.old core) (accesses.event_of access) ≡ true }
+        ensures word { result ≡ accesses.word_of self.old access }
+        ensures step { self.new ≡ steps.after_step protocol.now self.old (accesses.step_of core (accesses.word_of self.old access) access) }
+        ensures reached { steps.IsReached protocol.now (length self.old.states) self.new }
+        ensures cores { length self.new.states ≡ length self.old.states }
+    {
+        match access {
+            Access::Load => self.word,
+            Access::Store(word) => {
+                self.hit(protocol.draft(), core, word);
+                word
+            }
+        }
+    }
+
+    /// The transaction as one step, which gives the state in which who asks ends.
+    fn transact(&mut self, draft: &Draft, core: u32, event: Event) -> u8
+        requires well_formed { IsWellFormed draft.now }
+        requires shaped { IsShaped draft.now }
+        requires core { core < length self.old.states }
+        requires reached { steps.IsReached draft.now (length self.old.states) self.old }
+        requires needs { steps.needs draft.now (states.state_of self.old core) event ≡ true }
+        ensures step { self.new ≡ states.transact draft.now self.old (record { core = core; event = event }) }
+        ensures state { result ≡ states.ends_at draft.now self.old core event }
+    {
+        let row = self.row(draft, core, event);
+        let end = self.end(draft, core, event, row);
+        self.move_cores(draft, core, event, row, end);
+        self.note_request(draft, core, event, row);
+        end
+    }
+
+    /// The row of a request.
+    fn row<'a>(&self, draft: &'a Draft, core: u32, event: Event) -> &'a RowLine
+        requires core { core < length self.now.states }
+        requires rows { HasItsRows draft.now self.now (record { core = core; event = event }) }
+        ensures { standings.row_of draft.now self.now.home (record { core = core; event = event }) ≡ Some result.now }
+    {
+        terms::dir_row(draft, usize::from(self.dir), self.case(core, event)).unwrap()
+    }
+
+    /// The case of a request.
+    fn case(&self, core: u32, event: Event) -> DirCase
+        requires { core < length self.now.states }
+        ensures { result ≡ standings.case_of self.now.home (record { core = core; event = event }) }
+    {
+        let who = self.who(core);
+        match event {
+            Event::Load => DirCase::Ask(ReqClass::Read, who),
+            Event::Store => DirCase::Ask(ReqClass::Write, who),
+            Event::Evict => {
+                DirCase::Evict(who, marks::left_without(&self.sharing, core as usize))
+            }
+        }
+    }
+
+    /// What a core is to the directory.
+    fn who(&self, core: u32) -> Who
+        requires { core < length self.now.states }
+        ensures { result ≡ standings.who self.now.home core }
+    {
+        if self.is_owner(core as usize) {
+            Who::Owner
+        } else if marks::has(&self.sharing, core as usize) {
+            Who::Sharer
+        } else {
+            Who::Other
+        }
+    }
+
+    fn is_owner(&self, core: usize) -> bool
+        ensures { result ≡ term.is self.now.home.owner core }
+    {
+        self.owner.is_some_and(|owner| owner as usize == core)
+    }
+
+    /// The state in which who asks ends.
+    fn end(&self, draft: &Draft, core: u32, event: Event, row: &RowLine) -> u8
+        requires well_formed { IsWellFormed draft.now }
+        requires shaped { IsShaped draft.now }
+        requires core { core < length self.now.states }
+        requires owner { (o : ℕ) → self.now.home.owner ≡ Some o → o < length self.now.states }
+        requires row { standings.row_of draft.now self.now.home (record { core = core; event = event }) ≡ Some row.now }
+        requires rows { HasItsRows draft.now self.now (record { core = core; event = event }) }
+        ensures { result ≡ states.ends_at draft.now self.now core event }
+    {
+        match event {
+            Event::Load | Event::Store => self.final_state(draft, core, event, row).unwrap(),
+            Event::Evict => rows::out(draft),
+        }
+    }
+
+    /// The state in which who asks ends by a reply.
+    fn final_state(&self, draft: &Draft, core: u32, event: Event, row: &RowLine) -> Option<u8>
+        requires core { core < length self.now.states }
+        requires owner { (o : ℕ) → self.now.home.owner ≡ Some o → o < length self.now.states }
+        ensures { result ≡ option_and_then (requests.final draft.now (states.state_of self.now core) event) (states.reply_by draft.now self.now (action_in row.now.form)) }
+    {
+        let name = self.reply(draft, rows::action_in(row.form)?)?;
+        rows::final_state(draft, self.states[core as usize], event, name)
+    }
+
+    /// The reply that who asks gets.
+    fn reply(&self, draft: &Draft, action: Action) -> Option<ReplyName>
+        requires { (o : ℕ) → self.now.home.owner ≡ Some o → o < length self.now.states }
+        ensures { result ≡ states.reply_by draft.now self.now (Some action) }
+    {
+        match action {
+            Action::Reply(reply) => Some(ReplyName::Reply(reply)),
+            Action::Forward(forward) => {
+                Some(ReplyName::Reply(self.owners_reply(draft, forward)?))
+            }
+            Action::Count => Some(ReplyName::AckCount),
+        }
+    }
+
+    /// What the owner answers to a forward.
+    fn owners_reply(&self, draft: &Draft, forward: u8) -> Option<u8>
+        requires { (o : ℕ) → self.now.home.owner ≡ Some o → o < length self.now.states }
+        ensures { result ≡ option_and_then (λ o. next_rule.reply_to draft.now (states.state_of self.now o) forward) self.now.home.owner }
+    {
+        let owner = self.owner?;
+        rows::reply_to(draft, self.states[owner as usize], forward)
+    }
+
+    /// Who asks moves to the state in which it ends, and each core that is sent a forward takes it.
+    fn move_cores(&mut self, draft: &Draft, core: u32, event: Event, row: &RowLine, end: u8)
+        requires core { core < length self.old.states }
+        requires row { standings.row_of draft.now self.old.home (record { core = core; event = event }) ≡ Some row.now }
+        requires rows { HasItsRows draft.now self.old (record { core = core; event = event }) }
+        requires end { end ≡ states.ends_at draft.now self.old core event }
+        ensures { self.new ≡ record self.old { states = states.each_from (states.moved draft.now self.old (record { core = core; event = event })) 0 self.old.states } }
+    {
+        self.take_forwards(draft, core, event, row);
+        self.states[core as usize] = end;
+    }
+
+    /// Each core that is sent a forward takes it.
+    fn take_forwards(&mut self, draft: &Draft, core: u32, event: Event, row: &RowLine)
+        requires row { standings.row_of draft.now self.old.home (record { core = core; event = event }) ≡ Some row.now }
+        requires rows { HasItsRows draft.now self.old (record { core = core; event = event }) }
+        ensures { self.new ≡ record self.old { states = states.each_from (states.taken draft.now self.old.home (record { core = core; event = event })) 0 self.old.states } }
+    {
+        for to in 0..self.states.len() {
+            let next = self.taken(draft, core, event, row, to);
+            self.states[to] = next;
+        }
+    }
+
+    /// Where a request of another leads a core, which has a row for the forward that it is sent.
+    fn taken(&self, draft: &Draft, core: u32, event: Event, row: &RowLine, to: usize) -> u8
+        requires to { to < length self.now.states }
+        requires row { standings.row_of draft.now self.now.home (record { core = core; event = event }) ≡ Some row.now }
+        requires take { (f : ℕ) → sent draft.now self.now.home (record { core = core; event = event }) to ≡ Some f → IsSome (term.take_row draft.now (states.state_of self.now to) f) }
+        ensures { result ≡ states.taken draft.now self.now.home (record { core = core; event = event }) to (states.state_of self.now to) }
+    {
+        let state = self.states[to];
+        match self.sent(draft, core, event, row, to) {
+            Some(forward) => rows::take_next(draft, state, forward),
+            None => state,
+        }
+    }
+
+    /// The forward that a row of a request sends to a core.
+    fn sent(
+        &self,
+        draft: &Draft,
+        core: u32,
+        event: Event,
+        row: &RowLine,
+        to: usize,
+    ) -> Option<usize>
+        requires { to < length self.now.states }
+        ensures { result ≡ sent_by draft.now self.now.home (record { core = core; event = event }) to row.now }
+    {
+        if core as usize == to {
+            None
+        } else if event == Event::Store && marks::has(&self.sharing, to) {
+            terms::forward_of(draft, FwdClass::Inv)
+        } else if self.is_owner(to) {
+            terms::forward_in(row.form)
+        } else {
+            None
+        }
+    }
+
+    /// What the directory knows after a request with this row.
+    fn note_request(&mut self, draft: &Draft, core: u32, event: Event, row: &RowLine)
+        requires core { core < length self.old.states }
+        requires owner { (o : ℕ) → self.old.home.owner ≡ Some o → o < length self.old.states }
+        ensures { self.new ≡ record self.old { home = standings.after_row draft.now row.now event core self.old.home } }
+    {
+        match event {
+            Event::Load => self.note_read(draft, core, row),
+            Event::Store => self.note_write(core, row),
+            Event::Evict => self.note_evict(core, row),
+        }
+    }
+
+    /// What it knows after a load.
+    fn note_read(&mut self, draft: &Draft, core: u32, row: &RowLine)
+        requires core { core < length self.old.states }
+        requires owner { (o : ℕ) → self.old.home.owner ≡ Some o → o < length self.old.states }
+        ensures { self.new ≡ record self.old { home = standings.after_row draft.now row.now Event.Load core self.old.home } }
+    {
+        if rows::is_by_share(draft, row) {
+            self.share();
+        }
+        if terms::kind_is(DirKind::Owned, draft, usize::from(row.next)) {
+            self.owner = Some(core);
+        } else {
+            marks::add(&mut self.sharing, core as usize);
+        }
+        self.dir = row.next;
+    }
+
+    /// A share makes the owner a sharer.
+    fn share(&mut self)
+        requires { (o : ℕ) → self.old.home.owner ≡ Some o → o < length self.old.states }
+        ensures { self.new ≡ record self.old { home = standings.after_share self.old.home } }
+    {
+        if let Some(owner) = self.owner.take() {
+            marks::add(&mut self.sharing, owner as usize);
+        }
+    }
+
+    /// What it knows after a store.
+    fn note_write(&mut self, core: u32, row: &RowLine)
+        ensures { self.new ≡ record self.old { home = standings.after_write row.now core self.old.home } }
+    {
+        self.owner = Some(core);
+        marks::clear(&mut self.sharing);
+        self.dir = row.next;
+    }
+
+    /// What it knows after an evict.
+    fn note_evict(&mut self, core: u32, row: &RowLine)
+        requires { core < length self.old.states }
+        ensures { self.new ≡ record self.old { home = standings.after_evict row.now core self.old.home } }
+    {
+        if self.is_owner(core as usize) {
+            self.owner = None;
+        }
+        marks::remove(&mut self.sharing, core as usize);
+        self.dir = row.next;
+    }
+
+    /// A store of a core that may write.
+    fn hit(&mut self, draft: &Draft, core: u32, word: u32)
+        requires { core < length self.old.states }
+        ensures { self.new ≡ steps.after_step draft.now self.old (step.Store core word) }
+    {
+        let core = core as usize;
+        self.states[core] = rows::hit_next(draft, self.states[core]);
+        self.word = word;
+    }
+}
