@@ -1,0 +1,13 @@
+pub mod Options
+pub mod Digits
+pub mod Decimals
+pub mod Spellings
+pub mod Judging
+pub mod Faults
+pub mod Unique
+pub mod Taken
+pub mod Printed
+pub mod Progress
+pub mod Joining
+pub mod Bytes
+pub mod Short

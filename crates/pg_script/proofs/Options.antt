@@ -1,0 +1,32 @@
+-- What an option or a result says that was found by tests.
+use Rattle.std.proofs.Common.{◌≡◌, ℕ, Bool, true, false, List, Option, Some, None, Result, Ok, Err, refl, cond}
+use Rattle.std.specs.Str.{bytes_eq}
+use Rattle.std.specs.Option.{option_map}
+use Rattle.std.proofs.lemmas.Option.{same_Some}
+use Rattle.std.proofs.lemmas.Slice.Eq.{bytes_eq-Decides}
+
+-- what holds of each branch's value holds of the value that a test for a word led to
+pub told : {A : Type 0} (P : A → Type 0) (w s : List ℕ) (o p : Option A) (y : A) → (w ≡ s → o ≡ Some y → P y) → (p ≡ Some y → P y)
+    → cond (bytes_eq w s) o p ≡ Some y → P y
+told P w s o p y first other e = at (bytes_eq w s) (bytes_eq-Decides w s).0 e
+  where
+    at : (b : Bool) → (b ≡ true → w ≡ s) → cond b o p ≡ Some y → P y
+    at true same e = first (same refl) e
+    at false same e = other e
+
+-- nothing is no value that was found
+pub nothing_found : {A : Type 0} {P : Type 0} (y : A) → None ≡ Some y → P
+nothing_found y e = absurd cc
+
+-- what follows from the value that a map met
+pub mapped : {A B P : Type 0} (f : A → B) (o : Option A) (y : B) → option_map f o ≡ Some y → ((x : A) → o ≡ Some x → f x ≡ y → P) → P
+mapped f None y e g = absurd cc
+mapped f (Some x) y e g = g x refl (same_Some (f x) y e)
+
+-- one failure has one reason
+pub same_err : {A E : Type 0} (x y : E) → ◌≡◌ {A = Result A E} (Err x) (Err y) → x ≡ y
+same_err x y e = cc
+
+-- one success has one value
+pub same_ok : {A E : Type 0} (x y : A) → ◌≡◌ {A = Result A E} (Ok x) (Ok y) → x ≡ y
+same_ok x y e = cc

@@ -1,0 +1,25 @@
+//! Scripts: the loads, stores and evicts of cores on blocks, in the order in which they are asked for.
+//!
+//! docs/SCRIPTS.md has the form of a script and the rules C1 to C5.
+#![tactic(auto)]
+
+mod error;
+mod laws;
+mod numbers;
+mod printer;
+mod reader;
+mod reading;
+mod script;
+mod statement;
+mod text;
+
+pub use error::ScriptError;
+pub use laws::{
+    first_fault_is_exact, forms_are_exact, printing_is_exact, scripts_are_kept, worked_scripts,
+};
+pub use printer::print;
+pub use script::{Ops, Script, ScriptOp, ScriptOps, on_block};
+pub use text::read;
+
+#[cfg(test)]
+mod tests;
