@@ -1,0 +1,9 @@
+//! Runs a script on the atomic machine, a machine for each block, in the order of its lines.
+#![tactic(auto)]
+
+mod block;
+mod laws;
+mod run;
+
+pub use laws::histories_are_runs;
+pub use run::atomic_run;
