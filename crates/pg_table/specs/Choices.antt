@@ -1,0 +1,176 @@
+-- What a cache controller may do in a state at an input. Where a forward comes after the outstanding operation it may let it wait or take it at
+-- once; else there is one choice, or none where the input can't come.
+use Rattle.std.specs.Prelude.{ℕ, Bool, false, ◌&&◌, List, [], ◌∷◌, ◌++◌, Option, Some, None, is_some, if◌then◌else◌}
+use Rattle.std.specs.List.{list_any}
+use Rattle.std.specs.Option.{option_map_or, option_and_then}
+use Rattle.pg_perm.specs.declared.kinds.Event.{Event}
+use Rattle.pg_perm.specs.declared.kinds.Event.TheVariants.{Load, Store, Evict}
+use Rattle.pg_perm.specs.declared.kinds.ReqClass.TheVariants.{Read, Write}
+use Rattle.pg_perm.specs.declared.kinds.FwdClass.TheVariants as class
+use Rattle.pg_perm.specs.declared.draft.Draft.{Draft}
+use Rattle.pg_perm.specs.declared.draft.CoreForm.{CoreForm}
+use Rattle.pg_perm.specs.declared.draft.CoreForm.TheVariants as form
+use Rattle.pg_perm.specs.declared.draft.ReplyName.{ReplyName}
+use Rattle.pg_perm.specs.declared.draft.ReplyName.TheVariants as reply
+use Rattle.pg_terms.specs.Terms.{is, cache_is, out, shared, request_of, has_class, core_row, take_row, keep_of}
+use Rattle.pg_terms.specs.Due.{is_due}
+use Rattle.pg_shape.specs.TakeRules.{may_keep}
+use Rattle.pg_shape.specs.CoreRules.{allows, store_next}
+use Rattle.pg_shape.specs.NextRules.{final_under}
+use Rattle.pg_table.specs.declared.cache.Desc.{Desc}
+use Rattle.pg_table.specs.declared.cache.Desc.TheVariants.{Stable, Ask, Leave}
+use Rattle.pg_table.specs.declared.cache.Phase.{Phase}
+use Rattle.pg_table.specs.declared.cache.Phase.TheVariants.{D, Ad, Ac, A}
+use Rattle.pg_table.specs.declared.cache.Tag.{Tag}
+use Rattle.pg_table.specs.declared.cache.Tag.TheVariants.{Plain, Kept, Gave, Gone}
+use Rattle.pg_table.specs.declared.cache.Input.{Input}
+use Rattle.pg_table.specs.declared.cache.Input.TheVariants as at
+use Rattle.pg_table.specs.declared.cache.Act.{Act}
+use Rattle.pg_table.specs.declared.cache.Act.TheVariants as act
+use Rattle.pg_table.specs.Descriptors.{out_state, after, finals, store_phase}
+
+pub record Choice : Type 0 where
+  pub acts : List Act
+  pub next : Desc
+
+-- one choice
+abbrev pub only : List Act → Desc → List Choice
+only acts next = record { acts = acts; next = next } ∷ []
+
+-- the choices that an option gives
+abbrev pub given : {A : Type 0} → Option A → (A → List Choice) → List Choice
+given None f = []
+given (Some x) f = f x
+
+-- Forwards
+
+-- data goes out, where the take row has a reply
+abbrev pub gives : Option ℕ → List Act
+gives None = []
+gives (Some r) = act.Give r ∷ []
+
+-- how a forward is answered, by its class
+abbrev pub answer : Draft → ℕ → Option ℕ → List Act
+answer d f r = if has_class class.Inv d f then act.Ack ∷ [] else if has_class class.Share d f then gives r ++ act.Wb ∷ [] else gives r
+
+-- a forward that is due in this state is answered, and leads on to the state of its take row
+abbrev pub answered : Draft → ℕ → ℕ → (ℕ → Desc) → List Choice
+answered d s f onward = if is_due d s f then given (take_row d s f) (λ t. only (answer d f t.reply) (onward t.next)) else []
+
+-- a forward may come behind an operation that began in this state: one that is due where the operation ends, or was kept
+abbrev pub is_later : Draft → ℕ → Event → Tag → ℕ → Bool
+is_later d s event Plain f = list_any (λ x. is_due d x f) (finals d s event)
+is_later d s event Kept f = list_any (λ x. may_keep d x && option_map_or (λ k. is_due d k f) (keep_of d x) false) (finals d s event)
+is_later d s event Gave f = false
+is_later d s event Gone f = false
+
+-- the tag once a forward has come behind
+abbrev pub tag_by : Draft → ℕ → Tag
+tag_by d f = if has_class class.Share d f then Gave else if has_class class.Keep d f then Kept else Gone
+
+-- a forward that comes behind waits; or an inv is acknowledged at once, and another is put off
+abbrev pub later : Draft → ℕ → Event → Phase → Tag → ℕ → List Choice
+later d s event phase tag f = if is_later d s event tag f
+    then record { acts = act.Stall ∷ []; next = Ask event s phase tag }
+    ∷ record { acts = (if has_class class.Inv d f then act.Ack else act.Defer) ∷ []; next = Ask event s phase (tag_by d f) } ∷ []
+    else []
+
+-- Stable states
+
+abbrev pub leaves_by : CoreForm → Option ℕ
+leaves_by (form.Hit next) = None
+leaves_by (form.Ask request pairs) = None
+leaves_by (form.Leave request) = Some request
+
+abbrev pub by_load : Draft → ℕ → List Choice
+by_load d s = if cache_is (allows Load) d s then only (act.Hit ∷ []) (Stable s)
+    else given (request_of d Read) (λ q. only (act.Send q ∷ []) (Ask Load (out_state d) D Plain))
+
+abbrev pub by_store : Draft → ℕ → List Choice
+by_store d s = if cache_is (allows Store) d s then given (option_and_then (λ l. store_next s Store l.form) (core_row d s Store)) (λ t. only (act.Hit ∷ []) (Stable t))
+    else given (request_of d Write) (λ q. only (act.Send q ∷ []) (Ask Store s (store_phase d s) Plain))
+
+abbrev pub by_evict : Draft → ℕ → List Choice
+by_evict d s = if is (out d) s then only (act.Skip ∷ []) (Stable s)
+    else given (option_and_then (λ l. leaves_by l.form) (core_row d s Evict)) (λ q. only (act.Send q ∷ []) (Leave s))
+
+abbrev pub when_stable : Draft → ℕ → Input → List Choice
+when_stable d s (at.Core Load) = by_load d s
+when_stable d s (at.Core Store) = by_store d s
+when_stable d s (at.Core Evict) = by_evict d s
+when_stable d s (at.Forward f) = answered d s f (λ t. Stable t)
+when_stable d s _ = []
+
+-- Outstanding operations
+
+-- those that came behind are answered once the operation is done
+abbrev pub serves : Tag → List Act
+serves Plain = []
+serves _ = act.Serve ∷ []
+
+-- the final state of an operation that began in this state, under a reply
+abbrev pub fin : Draft → ℕ → Event → ReplyName → Option ℕ
+fin d s event name = option_and_then (λ l. final_under name l.form) (core_row d s event)
+
+-- the operation is done, and ends where its tag tells
+abbrev pub ends : Draft → Tag → List Act → Option ℕ → List Choice
+ends d tag acts f = given (option_and_then (λ x. after d x tag) f) (λ x. only (acts ++ act.Done ∷ [] ++ serves tag) (Stable x))
+
+-- where there is a shared state
+abbrev pub shares : Draft → List Choice → List Choice
+shares d choices = if is_some (shared d) then choices else []
+
+abbrev pub when_loading : Draft → ℕ → Tag → Input → List Choice
+when_loading d s tag (at.DataAll r) = ends d tag (act.Fill ∷ []) (fin d s Load (reply.Reply r))
+when_loading d s tag (at.Forward f) = later d s Load D tag f
+when_loading d s tag _ = []
+
+-- a forward that comes before the own store is answered as where the store began, and moves that
+abbrev pub earlier : Draft → ℕ → ℕ → List Choice
+earlier d s f = answered d s f (λ t. Ask Store t (store_phase d t) Plain)
+
+-- a store of a sharer that was granted nothing meets an inv before its own
+abbrev pub is_earlier : Draft → ℕ → Tag → ℕ → Bool
+is_earlier d s Plain f = is (shared d) s && has_class class.Inv d f
+is_earlier d s _ f = false
+
+abbrev pub when_storing : Draft → ℕ → Tag → Input → List Choice
+when_storing d s tag (at.DataAll r) = ends d tag (act.Fill ∷ []) (fin d s Store (reply.Reply r))
+when_storing d s tag (at.DataPart r) = shares d (given (fin d s Store (reply.Reply r)) (λ x. only (act.Fill ∷ act.Need ∷ []) (Ask Store s A tag)))
+when_storing d s tag at.AckMore = shares d (only (act.Count ∷ []) (Ask Store s Ad tag))
+when_storing d s tag (at.Forward f) = if is_earlier d s tag f then earlier d s f else later d s Store Ad tag f
+when_storing d s tag _ = []
+
+abbrev pub when_upgrading : Draft → ℕ → Input → List Choice
+when_upgrading d s at.CountAll = ends d Plain [] (fin d s Store reply.AckCount)
+when_upgrading d s at.CountPart = shares d (only (act.Need ∷ []) (Ask Store s A Plain))
+when_upgrading d s at.AckMore = shares d (only (act.Count ∷ []) (Ask Store s Ac Plain))
+when_upgrading d s (at.Forward f) = earlier d s f
+when_upgrading d s _ = []
+
+-- the one final state of a store
+abbrev pub store_final : List ℕ → Option ℕ
+store_final [] = None
+store_final (x ∷ xs) = Some x
+
+abbrev pub when_waiting : Draft → ℕ → Tag → Input → List Choice
+when_waiting d s tag at.AckMore = only (act.Count ∷ []) (Ask Store s A tag)
+when_waiting d s tag at.AckLast = ends d tag (act.Count ∷ []) (store_final (finals d s Store))
+when_waiting d s tag (at.Forward f) = later d s Store A tag f
+when_waiting d s tag _ = []
+
+abbrev pub when_leaving : Draft → ℕ → Input → List Choice
+when_leaving d s at.PutAck = only (act.Done ∷ []) (Stable (out_state d))
+when_leaving d s (at.Forward f) = answered d s f (λ t. Leave t)
+when_leaving d s _ = []
+
+-- All states
+
+abbrev pub choices : Draft → Desc → Input → List Choice
+choices d (Stable s) i = when_stable d s i
+choices d (Ask Load s D tag) i = when_loading d s tag i
+choices d (Ask Store s Ad tag) i = when_storing d s tag i
+choices d (Ask Store s Ac tag) i = when_upgrading d s i
+choices d (Ask Store s A tag) i = when_waiting d s tag i
+choices d (Leave s) i = when_leaving d s i
+choices d _ i = []

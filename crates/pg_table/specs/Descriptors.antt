@@ -1,0 +1,94 @@
+-- Which states a cache controller has, in their order.
+use Rattle.std.specs.Prelude.{ℕ, zero, suc, ◌+◌, Bool, false, not, ◌&&◌, ◌||◌, List, [], ◌∷◌, ◌++◌, map, filter, length, Option, Some, None, is_some, unwrap_or, if◌then◌else◌}
+use Rattle.std.specs.List.{list_any, flat_map}
+use Rattle.std.specs.Option.{option_map_or}
+use Rattle.pg_perm.specs.declared.kinds.Event.{Event}
+use Rattle.pg_perm.specs.declared.kinds.Event.TheVariants.{Load, Store}
+use Rattle.pg_perm.specs.declared.kinds.FwdClass.TheVariants as class
+use Rattle.pg_perm.specs.declared.kinds.Mode.{Mode}
+use Rattle.pg_perm.specs.declared.kinds.Mode.TheVariants as mode
+use Rattle.pg_perm.specs.declared.draft.Draft.{Draft}
+use Rattle.pg_perm.specs.declared.draft.CoreForm.{CoreForm}
+use Rattle.pg_perm.specs.declared.draft.CoreForm.TheVariants as form
+use Rattle.pg_terms.specs.Terms.{is, is_owner, is_read_owner, cache_is, out, shared, forward_of, core_row, keep_of}
+use Rattle.pg_terms.specs.Due.{is_due}
+use Rattle.pg_shape.specs.TakeRules.{may_keep}
+use Rattle.pg_table.specs.declared.cache.Desc.{Desc}
+use Rattle.pg_table.specs.declared.cache.Desc.TheVariants.{Stable, Ask, Leave}
+use Rattle.pg_table.specs.declared.cache.Phase.{Phase}
+use Rattle.pg_table.specs.declared.cache.Phase.TheVariants.{D, Ad, Ac, A}
+use Rattle.pg_table.specs.declared.cache.Tag.{Tag}
+use Rattle.pg_table.specs.declared.cache.Tag.TheVariants.{Plain, Kept, Gave, Gone}
+
+-- the out state
+abbrev pub out_state : Draft → ℕ
+out_state d = unwrap_or (out d) 0
+
+-- a cache in this state may get the share forward
+abbrev pub may_share : Draft → ℕ → Bool
+may_share d s = option_map_or (is_due d s) (forward_of d class.Share) false
+
+-- forwards may lead a cache from this state to the shared state: a share, or a keep and then a share
+abbrev pub may_give : Draft → ℕ → Bool
+may_give d s = may_share d s || (may_keep d s && option_map_or (may_share d) (keep_of d s) false)
+
+-- where an operation ends with this final state, once the forwards that a tag tells of have come
+abbrev pub after : Draft → ℕ → Tag → Option ℕ
+after d f Plain = Some f
+after d f Kept = if may_keep d f then keep_of d f else None
+after d f Gave = if may_give d f then shared d else None
+after d f Gone = out d
+
+abbrev pub finals_in : CoreForm → List ℕ
+finals_in (form.Hit next) = []
+finals_in (form.Ask request pairs) = map (λ p. p.fin) pairs
+finals_in (form.Leave request) = []
+
+-- the final states of a load or a store that began in this state
+abbrev pub finals : Draft → ℕ → Event → List ℕ
+finals d s event = option_map_or (λ l. finals_in l.form) (core_row d s event) []
+
+-- a tag tells of forwards that may come to an operation that began in this state
+abbrev pub is_tag_of : Draft → ℕ → Event → Tag → Bool
+is_tag_of d s event tag = list_any (λ f. is_some (after d f tag)) (finals d s event)
+
+-- the tags of an operation that began in this state, in their order; where forwards wait, no tag is set
+abbrev pub tags : Draft → Mode → ℕ → Event → List Tag
+tags d mode.Stall s event = Plain ∷ []
+tags d mode.Defer s event = filter (is_tag_of d s event) (Plain ∷ Kept ∷ Gave ∷ Gone ∷ [])
+
+-- what a store that began in this state waits for at first
+abbrev pub store_phase : Draft → ℕ → Phase
+store_phase d s = if cache_is (λ c. is_owner c.role) d s then Ac else Ad
+
+-- k numbers, of which the first is n
+abbrev pub numbers : ℕ → ℕ → List ℕ
+numbers n zero = []
+numbers n (suc k) = n ∷ numbers (n + 1) k
+
+-- the states of the caches, as they are declared
+abbrev pub states : Draft → List ℕ
+states d = numbers 0 (length d.caches)
+
+-- the states in which a store asks: out, shared, and the owners that may only read
+abbrev pub starts : Draft → List ℕ
+starts d = out_state d ∷ option_map_or (λ s. s ∷ []) (shared d) [] ++ filter (cache_is is_read_owner d) (states d)
+
+-- a store in this state, in its first phase; one that waits for a count has no tag
+abbrev pub first_states : Draft → Mode → ℕ → List Desc
+first_states d m s = if cache_is (λ c. is_owner c.role) d s then Ask Store s Ac Plain ∷ [] else map (λ t. Ask Store s Ad t) (tags d m s Store)
+
+-- a store in this state that waits for acknowledgements alone; without a shared state there are none
+abbrev pub waiting_states : Draft → Mode → ℕ → List Desc
+waiting_states d m s = if is_some (shared d) then map (λ t. Ask Store s A t) (tags d m s Store) else []
+
+abbrev pub store_states : Draft → Mode → ℕ → List Desc
+store_states d m s = first_states d m s ++ waiting_states d m s
+
+-- the states of the cache controller: the stable ones, those of a load, those of stores by where they began, and those of evicts
+abbrev pub descs : Draft → Mode → List Desc
+descs d m = map (λ s. Stable s) (states d)
+    ++ map (λ t. Ask Load (out_state d) D t) (tags d m (out_state d) Load)
+    ++ flat_map (store_states d m) (starts d)
+    ++ map (λ s. Leave s) (filter (λ s. not (is (out d) s)) (states d))
+    ++ Leave (out_state d) ∷ []

@@ -1,0 +1,5 @@
+pub mod Descriptors
+pub mod Choices
+pub mod Generated
+pub mod Home
+pub mod Worked

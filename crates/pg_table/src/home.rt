@@ -1,0 +1,59 @@
+use pg_perm::{Left, ReqClass, Sequence, Who};
+
+/// A state of the directory controller.
+#[derive(Clone, Copy, Debug, PartialEq, Eq)]
+pub enum DirDesc {
+    State(u8),
+    /// It waits for the data that an owner writes back, and then goes to this state.
+    Busy(u8),
+}
+
+/// What a directory controller meets.
+#[derive(Clone, Copy, Debug, PartialEq, Eq)]
+pub enum DirInput {
+    /// A READ or a WRITE, and what its sender is.
+    Ask(ReqClass, Who),
+    /// An evict, what its sender is, and whether sharers are left without it.
+    Evict(Who, Left),
+    /// An evict of a core that is neither owner nor sharer.
+    EvictNone,
+    /// A READ or a WRITE, while it is busy.
+    BusyAsk(ReqClass),
+    /// An evict, while it is busy.
+    BusyEvict,
+    /// The data that an owner writes back.
+    Wb,
+}
+
+/// What a directory controller does.
+#[derive(Clone, Copy, Debug, PartialEq, Eq)]
+pub enum DirAct {
+    /// Memory's data goes to who asks.
+    Reply(u8),
+    /// The request is passed on to the owner.
+    Forward(u8),
+    /// Each sharer but who asks is sent an inv.
+    Inv,
+    /// Who asks is told how many acknowledgements to wait for.
+    AckCount,
+    /// Memory takes the word that came, if one did.
+    Write,
+    /// Who asks is told that its evict was handled.
+    PutAck,
+    /// The request stays where it is.
+    Stall,
+}
+
+pub type DirInputs = Sequence<DirInput>;
+
+pub type DirActs = Sequence<DirAct>;
+
+/// What the controller does in a state at each of some inputs, and the number of the state that it goes to.
+#[derive(Debug, Drop, PartialEq, Eq)]
+pub struct DirRow {
+    pub inputs: DirInputs,
+    pub acts: DirActs,
+    pub next: u16,
+}
+
+pub type DirRows = Sequence<DirRow>;
