@@ -1,5 +1,7 @@
+use histories::History;
+use pg_atomic::Atomic;
 use pg_io::{MemorySink, MemorySource, read_all};
-use pg_perm::{Event, Fault, Left, Perm, ReqClass, Rule, Who};
+use pg_perm::{Access, Event, Fault, Left, Perm, ReqClass, Rule, Who};
 use pg_shape::{DirCase, Protocol, shape};
 use protogen_cli::{Status, protogen};
 use shapes::Case;
@@ -7,8 +9,9 @@ use std::alloc::{AllocError, Global};
 use std::fmt::Write;
 use std::process::Abort;
 use std::test::Fail;
-use texts::{MESI, MI, MOESI, MOSI, MSI};
+use texts::{MESI, MI, MIGRATORY, MOESI, MOSI, MSI, VISIBLE};
 
+mod histories;
 mod shapes;
 mod texts;
 
@@ -23,13 +26,29 @@ fn strings(alloc: Global, words: &[&str]) -> Result<Vec<String>, AllocError> {
     Ok(texts)
 }
 
-/// How a check of this text ends, and what it writes.
-fn check(alloc: Global, text: Vec<u8>) -> Result<(Status, Vec<u8>), AllocError> {
-    let words = strings(alloc, &["check"])?;
-    let mut source = MemorySource::new(text, 65536, Vec::new(alloc));
+/// How a command ends on this input, and what it writes.
+fn run(alloc: Global, command: &str, input: Vec<u8>) -> Result<(Status, Vec<u8>), AllocError> {
+    let words = strings(alloc, &[command])?;
+    let mut source = MemorySource::new(input, 65536, Vec::new(alloc));
     let mut sink = MemorySink::new(alloc, 4096, 4096, Vec::new(alloc))?;
     let status = protogen(alloc, &words, &mut source, &mut sink);
     Ok((status, sink.held().to_vec(alloc)?))
+}
+
+/// How a check of this text ends, and what it writes.
+fn check(alloc: Global, text: Vec<u8>) -> Result<(Status, Vec<u8>), AllocError> {
+    run(alloc, "check", text)
+}
+
+/// How this script ends on the atomic machine of a text, and what it writes.
+fn atomic(alloc: Global, text: &str, script: &str) -> Result<(Status, Vec<u8>), AllocError> {
+    let mut input = text.as_bytes().to_vec(alloc)?;
+    input.extend_from_slice(script.as_bytes())?;
+    run(alloc, "atomic", input)
+}
+
+fn script_breaks(line: u32, rule: Rule) -> Status {
+    Status::Script(Fault { line, rule })
 }
 
 fn breaks(line: u32, rule: Rule) -> Status {
@@ -185,7 +204,7 @@ fn texts_at_the_limits_are_judged(rt: HostRuntime) -> Result<(), Fail> {
 #[test]
 fn each_protocol_is_one(rt: HostRuntime) -> Result<(), Fail> {
     let alloc = rt.alloc();
-    for text in [MI, MSI, MESI, MOSI, MOESI] {
+    for text in [MI, MSI, MESI, MOSI, MOESI, MIGRATORY, VISIBLE] {
         let (status, _) = check(alloc, text.as_bytes().to_vec(alloc)?)?;
         assert_eq!(rt; status, Status::Done, "{text}");
     }
@@ -288,5 +307,92 @@ fn a_protocol_tells_its_rows(rt: HostRuntime) -> Result<(), Fail> {
         let row = protocol.row(dir, at);
         assert_eq!(rt; row.map(|row| row.line), line);
     }
+    Ok(())
+}
+
+#[test]
+fn a_script_is_run_or_judged(rt: HostRuntime) -> Result<(), Fail> {
+    let alloc = rt.alloc();
+    for (script, wanted, written) in [
+        (
+            "cores 2\nblocks 1\nop 0 store 0 5\nop 1 load 0\ndone\n",
+            Status::Done,
+            "block 0\ntxn 1 c0 store\nacc 1 c0 store 5\ntxn 2 c1 load\nacc 2 c1 load 5\nend\n",
+        ),
+        ("cores 1\nblocks 1\ndone\n", Status::Done, "block 0\nend\n"),
+        (
+            "cores 32\nblocks 1\nop 32 load 0\ndone\n",
+            script_breaks(3, Rule::C2),
+            "script line 3 rule C2\n",
+        ),
+        ("", script_breaks(1, Rule::C4), "script line 1 rule C4\n"),
+        (
+            "cores 0\nblocks 1\ndone\n",
+            script_breaks(1, Rule::C2),
+            "script line 1 rule C2\n",
+        ),
+        (
+            "cores 1\nblocks 1\ndone\nx",
+            script_breaks(4, Rule::C5),
+            "script line 4 rule C5\n",
+        ),
+    ] {
+        let (status, bytes) = atomic(alloc, MSI, script)?;
+        assert_eq!(rt; status, wanted, "{script}");
+        assert_eq!(rt; bytes.as_slice(), written.as_bytes(), "{script}");
+    }
+    Ok(())
+}
+
+#[test]
+fn a_text_comes_before_its_script(rt: HostRuntime) -> Result<(), Fail> {
+    let alloc = rt.alloc();
+    let (status, _) = atomic(alloc, "protocol P\n\nend\n", "cores 0\n")?;
+    assert_eq!(rt; status, breaks(2, Rule::F1));
+    let (status, _) = atomic(alloc, "protocol P\nend\n", "cores 0\n")?;
+    assert_eq!(rt; status, breaks(1, Rule::S2));
+    Ok(())
+}
+
+/// Checks that each case has its histories.
+fn have_histories(rt: &impl Abort, alloc: Global, cases: &[History]) -> Result<(), Fail> {
+    for (name, base, script, wanted) in cases {
+        let (status, written) = atomic(alloc, base.text(), script)?;
+        assert_eq!(rt; status, Status::Done, "{name}");
+        assert_eq!(rt; written.as_slice(), wanted.as_bytes(), "{name}");
+    }
+    Ok(())
+}
+
+#[test]
+fn histories_are_those_worked_by_hand(rt: HostRuntime) -> Result<(), Fail> {
+    let alloc = rt.alloc();
+    for cases in [
+        histories::HISTORIES_1,
+        histories::HISTORIES_2,
+        histories::HISTORIES_3,
+        histories::HISTORIES_4,
+        histories::HISTORIES_5,
+        histories::HISTORIES_6,
+    ] {
+        have_histories(&rt, alloc, cases)?;
+    }
+    Ok(())
+}
+
+/// The machine of MSI with as many cores as there may be: a store, and a load that is passed on to the writer.
+#[test]
+fn a_machine_makes_its_steps(rt: HostRuntime) -> Result<(), Fail> {
+    let protocol = msi(&rt, rt.alloc())?;
+    let mut machine = Atomic::make(rt.alloc(), &protocol, 64)?;
+    assert!(rt; !machine.may(&protocol, 63, Event::Store));
+    let stored = machine.txn(&protocol, 63, Event::Store);
+    assert_eq!(rt; (stored.state, stored.dir), (2, 2));
+    assert_eq!(rt; machine.access(&protocol, 63, Access::Store(5)), 5);
+    assert!(rt; !machine.may(&protocol, 0, Event::Load));
+    let loaded = machine.txn(&protocol, 0, Event::Load);
+    assert_eq!(rt; (loaded.state, loaded.dir), (1, 1));
+    assert_eq!(rt; machine.access(&protocol, 0, Access::Load), 5);
+    assert!(rt; machine.may(&protocol, 63, Event::Evict));
     Ok(())
 }

@@ -2,7 +2,7 @@
 use Rattle.std.specs.Prelude.{◌≡◌, ℕ, ◌<◌, Option, None, Some, List, [], length, take}
 use Rattle.pg_io.specs.Sink.{Holds}
 use Rattle.protogen_cli.specs.declared.status.Status.{Status}
-use Rattle.protogen_cli.specs.declared.status.Status.TheVariants.{Done, Text, Usage, ReadFault, WriteFault, Memory, TooLong}
+use Rattle.protogen_cli.specs.declared.status.Status.TheVariants.{Done, Text, Usage, ReadFault, WriteFault, Memory, TooLong, Script}
 use Rattle.protogen_cli.specs.Replies.{Reply}
 
 -- the input is what the source has left, where it tells
@@ -54,6 +54,7 @@ Ends Done due old new = Replied Done due old new
 Ends (Text f) due old new = Replied (Text f) due old new
 Ends Usage due old new = Replied Usage due old new
 Ends TooLong due old new = Replied TooLong due old new
+Ends (Script f) due old new = Replied (Script f) due old new
 
 -- nothing is left of what was left; nothing is said where it isn't told
 abbrev pub IsReadToEnd : Option (List ℕ) → Option (List ℕ) → Type 0

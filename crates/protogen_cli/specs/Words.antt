@@ -1,12 +1,22 @@
 -- The words that the program is called with.
-use Rattle.std.specs.Prelude.{ℕ, Bool, false, List, [], ◌∷◌, map, codes, String, string_bytes}
+use Rattle.std.specs.Prelude.{ℕ, Bool, List, [], ◌∷◌, map, codes, String, string_bytes, Option, Some, None, is_some, if◌then◌else◌}
 use Rattle.std.specs.Str.{bytes_eq}
+use Rattle.protogen_cli.specs.declared.words.Command.{Command}
+use Rattle.protogen_cli.specs.declared.words.Command.TheVariants.{Check, Atomic}
 
 -- the bytes of each word
 abbrev pub texts : {A : Type 0} → List (String A) → List (List ℕ)
 texts words = map string_bytes words
 
+-- the command that a word is, if it is one
+abbrev pub command_in : List ℕ → Option Command
+command_in word = if bytes_eq word (codes "check") then Some Check else if bytes_eq word (codes "atomic") then Some Atomic else None
+
+-- the command that the words are, if they are one: a word alone
+abbrev pub command_of : List (List ℕ) → Option Command
+command_of (word ∷ []) = command_in word
+command_of words = None
+
 -- the words are those of a command
 abbrev pub is_taken : List (List ℕ) → Bool
-is_taken (word ∷ []) = bytes_eq word (codes "check")
-is_taken words = false
+is_taken words = is_some (command_of words)

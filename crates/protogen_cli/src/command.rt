@@ -7,19 +7,21 @@ ghost use Rattle.protogen_cli.specs.Ends.{outside, Tells, IsReadToEnd, Ends};
 
 use crate::judge::{NoReport, judge};
 use crate::status::Status;
-use crate::words::taken;
+use crate::words::command_of;
 use pg_io::{Sink, Source, write_all};
 use std::alloc::Global;
 
 /// Does what the words ask, from the source to the sink.
 ///
-/// `check` reads the source to its end and judges what it gave as the text of a protocol. It writes one line: `ok`, or
-/// `line L rule R` for the first line L that breaks a rule and the first rule R that it breaks, or `too long` where the
-/// source gave 1,048,577 bytes, which is one more than a text may have. At other words it reads nothing and writes
-/// `usage`. The whole line is made before any of it is written.
+/// `check` reads the source to its end and judges what it gave as the text of a protocol. It writes `ok`, or `line L rule R` for the first
+/// line L that breaks a rule and the first rule R that it breaks. `atomic` takes what stands behind the text's `end` line as a script, and
+/// where the text breaks no rule it writes the histories of the script's blocks on the atomic machine, or `script line L rule R` for the
+/// first line L of the script that breaks a rule and the first such rule R. Both write `too long` where the source gave 1,048,577 bytes,
+/// which is one more than an input may have. At other words it reads nothing and writes `usage`. All that is written is made before any of
+/// it is written.
 ///
 /// `ReadFault` and `WriteFault` come as soon as the source or the sink has failed, and `Memory` where there was none left
-/// for the input, for what is read from it or for the line.
+/// for the input, for what is read from it or for the output.
 pub fn protogen<S: Source, K: Sink>(
     alloc: Global,
     words: &[String],
@@ -47,10 +49,10 @@ pub fn protogen<S: Source, K: Sink>(
     ensures read_fault { (result ≡ Status.ReadFault) ↔ (S.faults source.old < S.faults source.new) }
     ensures write_fault { (result ≡ Status.WriteFault) ↔ (K.faults sink.old < K.faults sink.new) }
 {
-    if !taken(words) {
+    let Some(command) = command_of(words) else {
         return finish(sink, Status::Usage, b"usage\n");
-    }
-    match judge(alloc, source) {
+    };
+    match judge(alloc, command, source) {
         Ok(report) => finish(sink, report.status(), report.bytes()),
         Err(NoReport::Fault) => Status::ReadFault,
         Err(NoReport::Memory) => Status::Memory,

@@ -7,6 +7,7 @@ ghost use Rattle.protogen_cli.specs.Judging.{RisesAtFault};
 
 use crate::report::Report;
 use crate::status::Status;
+use crate::words::Command;
 use pg_io::{ReadAllError, Source, read_all};
 use std::alloc::{AllocError, Global};
 
@@ -32,11 +33,11 @@ impl From<AllocError> for NoReport {
     }
 }
 
-/// Reads all that is left, and judges it as a text.
-pub fn judge<S: Source>(alloc: Global, source: &mut S) -> Result<Report, NoReport>
+/// Reads all that is left, and does what the command asks of it.
+pub fn judge<S: Source>(alloc: Global, command: Command, source: &mut S) -> Result<Report, NoReport>
     requires { S.faults source.old < 2 ^ 64 - 1 }
     ensures reply { IfOk result (λ report. (input : List ℕ)
-        × Tells (S.left source.old) input × (report ≡ answer_to_input input)) }
+        × Tells (S.left source.old) input × (report ≡ answer_to_input command input)) }
     ensures whole { IfOk result (λ report. IsOfText report.status → IsReadToEnd (S.left source.old) (S.left source.new)) }
     ensures too_long { IfOk result (λ report. report.status ≡ Status.TooLong
         → GaveCount (S.left source.old) (S.left source.new) (λ count. count ≡ 1048577)) }
@@ -44,7 +45,7 @@ pub fn judge<S: Source>(alloc: Global, source: &mut S) -> Result<Report, NoRepor
     ensures faults { RisesAtFault result (S.faults source.old) (S.faults source.new) }
 {
     match read_all(alloc, source, MOST_BYTES) {
-        Ok(input) => Ok(Report::on_text(alloc, &input)?),
+        Ok(input) => Ok(Report::on_input(alloc, command, &input)?),
         Err(ReadAllError::TooLong) => Ok(Report::too_long(alloc)?),
         Err(ReadAllError::Fault) => Err(NoReport::Fault),
         Err(ReadAllError::Memory) => Err(NoReport::Memory),

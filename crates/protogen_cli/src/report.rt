@@ -1,30 +1,33 @@
-ghost use Rattle.std.specs.Prelude.{◌≡◌, ◌<◌, length, IfOk};
+ghost use Rattle.std.specs.Prelude.{◌≡◌, ◌<◌, ◌≤◌, length, drop, IfOk};
 ghost use Rattle.pg_perm.specs.Drafts.{IsWellFormed};
 ghost use Rattle.pg_shape.specs.FirstFaults.{shape_fault};
+ghost use Rattle.pg_script.specs.Texts.{reading as script_reading};
 ghost use Rattle.pg_text.specs.Texts.{reading};
-ghost use Rattle.protogen_cli.specs.Replies.{answer_to_fault, answer_to_text, fault_line, too_long};
+ghost use Rattle.protogen_cli.specs.Replies as replies;
 
 use crate::status::Status;
+use crate::words::Command;
+use pg_atomic_run::atomic_run;
 use pg_perm::{Draft, Fault};
-use pg_shape::{ShapeError, shape};
+use pg_script::ScriptError;
+use pg_shape::{Protocol, ShapeError, shape};
 use pg_text::TextError;
 use std::alloc::{AllocError, Global};
 use std::marker::Model;
 
-/// A line to write, and the status to end with once it is written.
+/// The bytes to write, and the status to end with once they are written.
 #[derive(Drop)]
 pub struct Report {
     status: Status,
-    line: String,
+    bytes: Vec<u8>,
 }
 
 impl Model for Report {
-    ghost use Rattle.std.specs.String.{string_bytes};
     ghost use Rattle.protogen_cli.specs.Replies.{Reply};
 
     ghost Value = { Reply };
 
-    ghost view = { λ r. record { status = r.status; bytes = string_bytes r.line } };
+    ghost view = { λ r. record { status = r.status; bytes = r.bytes.items } };
 }
 
 impl Report {
@@ -33,44 +36,94 @@ impl Report {
     {
         Ok(Report {
             status,
-            line: String::from_str(alloc, line)?,
+            bytes: String::from_str(alloc, line)?.into_bytes(),
         })
     }
 
-    fn on_fault(alloc: Global, fault: Fault) -> Result<Self, AllocError>
-        ensures { IfOk result (λ report. report ≡ record { status = Status.Text fault; bytes = fault_line fault }) }
+    fn on_text_fault(alloc: Global, fault: Fault) -> Result<Self, AllocError>
+        ensures { IfOk result (λ report. report ≡ replies.text_fault fault) }
     {
         let line = format!(in alloc; "line {} rule {}\n", fault.line, fault.rule.name())?;
         Ok(Report {
             status: Status::Text(fault),
-            line,
+            bytes: line.into_bytes(),
         })
     }
 
-    fn on_draft(alloc: Global, draft: Draft) -> Result<Self, AllocError>
-        requires { IsWellFormed draft }
-        ensures { IfOk result (λ report. report ≡ answer_to_fault (shape_fault draft)) }
+    fn on_script_fault(alloc: Global, fault: Fault) -> Result<Self, AllocError>
+        ensures { IfOk result (λ report. report ≡ replies.script_fault fault) }
     {
-        match shape(draft) {
-            Ok(_) => Report::new(alloc, Status::Done, "ok\n"),
-            Err(ShapeError::Fault(fault)) => Report::on_fault(alloc, fault),
+        let line = format!(in alloc; "script line {} rule {}\n", fault.line, fault.rule.name())?;
+        Ok(Report {
+            status: Status::Script(fault),
+            bytes: line.into_bytes(),
+        })
+    }
+
+    /// Runs the script on the atomic machine of the protocol.
+    fn on_script(alloc: Global, protocol: &Protocol, script: &[u8]) -> Result<Self, AllocError>
+        requires { length script.now < 4294967295 }
+        ensures { IfOk result (λ report. report ≡ replies.answer_to_script protocol.now (script_reading script.now)) }
+    {
+        match pg_script::read(alloc, script) {
+            Ok(script) => Ok(Report {
+                status: Status::Done,
+                bytes: atomic_run(alloc, protocol, &script)?,
+            }),
+            Err(ScriptError::Fault(fault)) => Report::on_script_fault(alloc, fault),
+            Err(ScriptError::Memory) => Err(AllocError),
         }
     }
 
-    /// Judges a text.
-    pub fn on_text(alloc: Global, text: &[u8]) -> Result<Self, AllocError>
-        requires { length text.now < 4294967295 }
-        ensures { IfOk result (λ report. report ≡ answer_to_text (reading text.now)) }
+    /// Does what the command asks of a protocol, with what stands behind its text.
+    fn on_protocol(
+        alloc: Global,
+        command: Command,
+        protocol: &Protocol,
+        rest: &[u8],
+    ) -> Result<Self, AllocError>
+        requires { length rest.now < 4294967295 }
+        ensures { IfOk result (λ report. report ≡ replies.answer_to_protocol command protocol.now rest.now) }
     {
-        match pg_text::read(alloc, text) {
-            Ok((draft, _)) => Report::on_draft(alloc, draft),
-            Err(TextError::Form(fault)) => Report::on_fault(alloc, fault),
+        match command {
+            Command::Check => Report::new(alloc, Status::Done, "ok\n"),
+            Command::Atomic => Report::on_script(alloc, protocol, rest),
+        }
+    }
+
+    fn on_draft(
+        alloc: Global,
+        command: Command,
+        draft: Draft,
+        rest: &[u8],
+    ) -> Result<Self, AllocError>
+        requires whole { IsWellFormed draft }
+        requires short { length rest.now < 4294967295 }
+        ensures { IfOk result (λ report. report ≡ replies.answer_to_draft command draft rest.now (shape_fault draft)) }
+    {
+        match shape(draft) {
+            Ok(protocol) => Report::on_protocol(alloc, command, &protocol, rest),
+            Err(ShapeError::Fault(fault)) => Report::on_text_fault(alloc, fault),
+        }
+    }
+
+    /// Does what the command asks of an input.
+    pub fn on_input(alloc: Global, command: Command, input: &[u8]) -> Result<Self, AllocError>
+        requires { length input.now < 4294967295 }
+        ensures { IfOk result (λ report. report ≡ replies.answer_to_text command input.now (reading input.now)) }
+    {
+        match pg_text::read(alloc, input) {
+            Ok((draft, place)) => {
+                let (_, rest) = input.split_at(place as usize);
+                Report::on_draft(alloc, command, draft, rest)
+            }
+            Err(TextError::Form(fault)) => Report::on_text_fault(alloc, fault),
             Err(TextError::Memory) => Err(AllocError),
         }
     }
 
     pub fn too_long(alloc: Global) -> Result<Self, AllocError>
-        ensures { IfOk result (λ report. report ≡ too_long) }
+        ensures { IfOk result (λ report. report ≡ replies.too_long) }
     {
         Report::new(alloc, Status::TooLong, "too long\n")
     }
@@ -84,6 +137,6 @@ impl Report {
     pub fn bytes(&self) -> &[u8]
         ensures { result.now ≡ self.now.bytes }
     {
-        self.line.as_bytes()
+        self.bytes.as_slice()
     }
 }

@@ -6,7 +6,7 @@ use pg_perm::Fault;
 /// How a call ended.
 #[derive(Clone, Copy, Debug, PartialEq, Eq)]
 pub enum Status {
-    /// The text breaks no rule.
+    /// What the words ask for was done and written.
     Done,
     /// The first line of the text that breaks a rule, and the first rule that it breaks.
     Text(Fault),
@@ -20,10 +20,12 @@ pub enum Status {
     Memory,
     /// The input has more than 1,048,576 bytes.
     TooLong,
+    /// The first line of the script that breaks a rule, and the first rule that it breaks.
+    Script(Fault),
 }
 
 impl Status {
-    /// The exit status of the program, from 0 to 6.
+    /// The exit status of the program, from 0 to 7.
     pub fn code(&self) -> u8
         ensures { result ≡ exit_code self.now }
     {
@@ -35,6 +37,7 @@ impl Status {
             Status::WriteFault => 4,
             Status::Memory => 5,
             Status::TooLong => 6,
+            Status::Script(_) => 7,
         }
     }
 }

@@ -3,10 +3,13 @@ use pg_perm::{Fault, Rule};
 use std::test::Fail;
 
 #[test]
-fn check_alone_is_taken(rt: HostRuntime) -> Result<(), Fail> {
+fn a_command_alone_is_taken(rt: HostRuntime) -> Result<(), Fail> {
     let alloc = rt.alloc();
     for (words, wanted) in [
         (["check"].as_slice(), true),
+        (&["atomic"], true),
+        (&["atomic", "check"], false),
+        (&["Atomic"], false),
         (&[], false),
         (&[""], false),
         (&["chek"], false),
@@ -39,6 +42,7 @@ fn each_status_has_its_code(rt: HostRuntime) {
         (Status::WriteFault, 4),
         (Status::Memory, 5),
         (Status::TooLong, 6),
+        (Status::Script(fault), 7),
     ] {
         assert_eq!(rt; status.code(), wanted, "{status:?}");
     }

@@ -227,3 +227,110 @@ row M GetM other FwdGetM M
 row M evict owner last I
 end
 ";
+
+/// Two owners that may only read, and a load of the writer that moves the block to the reader.
+pub const MIGRATORY: &str = "protocol Migratory
+cache I out none
+cache S shared read
+cache O owner read
+cache P owner read
+cache M owner write
+dir Idle idle
+dir Shared shared
+dir Many mixed O
+dir Sole owned P O
+dir Dirty owned M
+request GetS read
+request GetM write
+request PutS clean
+request PutD dirty
+forward Inv inv
+forward Down share
+forward Keep keep
+forward Pass drop
+reply Data data
+reply DataP data
+core I load GetS Data S DataP P
+core I store GetM Data M DataP M
+core S load hit
+core S store GetM Data M DataP M
+core S evict PutS
+core O load hit
+core O store GetM AckCount M
+core O evict PutD
+core P load hit
+core P store GetM AckCount M
+core P evict PutD
+core M load hit
+core M store hit
+core M evict PutD
+take S Inv I
+take O Down Data S
+take O Keep Data O
+take O Pass DataP I
+take P Keep Data O
+take P Pass DataP I
+take M Pass DataP I
+row Idle GetS other Data Shared
+row Idle GetM other Data Dirty
+row Shared GetS other Data Shared
+row Shared GetM other Data Dirty
+row Shared GetM sharer Data Dirty
+row Shared evict sharer last Idle
+row Shared evict sharer more Shared
+row Many GetS other Down Shared
+row Many GetM other Pass Dirty
+row Many GetM sharer Pass Dirty
+row Many GetM owner count Dirty
+row Many evict owner last Idle
+row Many evict owner more Shared
+row Many evict sharer last Sole
+row Many evict sharer more Many
+row Sole GetS other Keep Many
+row Sole GetM other Pass Dirty
+row Sole GetM owner count Dirty
+row Sole evict owner last Idle
+row Dirty GetS other Pass Sole
+row Dirty GetM other Pass Dirty
+row Dirty evict owner last Idle
+end
+";
+
+/// A clean owner and a dirty one that answer by replies of their own, so that a history tells which of them a core was.
+pub const VISIBLE: &str = "protocol Visible
+cache I out none
+cache E owner write clean
+cache M owner write
+cache P owner read
+dir N idle
+dir D owned E M P
+request GetS read
+request GetM write
+request PutC clean
+request PutD dirty
+forward Pass drop
+reply Excl data
+reply DataM data
+reply DataP data
+core I load GetS Excl E DataM M DataP P
+core I store GetM Excl M DataM M DataP M
+core E load hit
+core E store hit M
+core E evict PutC
+core M load hit
+core M store hit
+core M evict PutD
+core P load hit
+core P store GetM AckCount M
+core P evict PutD
+take E Pass DataM I
+take M Pass DataP I
+take P Pass DataP I
+row N GetS other Excl D
+row N GetM other Excl D
+row D GetS other Pass D
+row D GetM other Pass D
+row D GetM owner count D
+row D evict owner last N
+end
+";

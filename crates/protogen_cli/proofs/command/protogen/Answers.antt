@@ -1,26 +1,26 @@
 use Rattle.std.proofs.Common.{◌∙◌, ap, refl, subst, sym, arith}
 use Rattle.protogen_cli.specs.Statuses.{IsOfText}
-use Rattle.protogen_cli.proofs.Replies.{some_told, answer_to_input-not-usage, of_text_due}
+use Rattle.protogen_cli.proofs.Replies.{some_told, answer_to_input-not-usage, of_text_due, taken_not}
 use Rattle.protogen_cli.proofs.command.protogen.Goals as goal
 
-pub returns-then-not-taken-clause-answer : goal.returns-then-not-taken-clause-answer
-returns-then-not-taken-clause-answer g c =
+pub returns-in_default-clause-answer : goal.returns-in_default-clause-answer
+returns-in_default-clause-answer g c =
     let told = some_told (g.S.Source.left c.args.source.now) in
     let ends = c.finish.ensures.ends (g.S.Source.faults c.args.source.now) in
-    rw (sym c.taken.ensures ∙ c.if-not-taken.true) (told.0, told.1, ends)
+    rw (sym c.command_of.ensures ∙ c.in_default.is) (told.0, told.1, ends)
 
-pub returns-then-not-taken-clause-usage : goal.returns-then-not-taken-clause-usage
-returns-then-not-taken-clause-usage g c = (
+pub returns-in_default-clause-usage : goal.returns-in_default-clause-usage
+returns-in_default-clause-usage g c = (
   λ e. let ends = rw e at c.finish.ensures.ends 0 in (cc, ends.write_faults),
   λ p. c.finish.ensures.status p.1,
 )
 
-pub returns-then-not-taken-clause-whole : goal.returns-then-not-taken-clause-whole
-returns-then-not-taken-clause-whole g c =
+pub returns-in_default-clause-whole : goal.returns-in_default-clause-whole
+returns-in_default-clause-whole g c =
     λ of. absurd (of_text_due _ _ _ _ (c.finish.ensures.ends 0) of)
 
-pub returns-then-not-taken-clause-read_fault : goal.returns-then-not-taken-clause-read_fault
-returns-then-not-taken-clause-read_fault g c = (
+pub returns-in_default-clause-read_fault : goal.returns-in_default-clause-read_fault
+returns-in_default-clause-read_fault g c = (
   λ e. let ends = rw e at c.finish.ensures.ends 0 in let rises = ends.read_fault in omega arith,
   λ rises. let none : ⊥ = omega arith in absurd none,
 )
@@ -29,8 +29,8 @@ pub returns-in-Ok-clause-usage : goal.returns-in-Ok-clause-usage
 returns-in-Ok-clause-usage g c = (
   λ e. let ends = rw e at c.finish-in-Ok.ensures.ends 0 in
       let (input, _, same) = c.in-Ok.ensures.reply in
-      absurd (answer_to_input-not-usage input (ends.due ∙ c.status.ensures ∙ ap (λ r. r.status) same)),
-  λ p. let not_taken = p.0 in cc,
+      absurd (answer_to_input-not-usage _ input (ends.due ∙ c.status.ensures ∙ ap (λ r. r.status) same)),
+  λ p. absurd (taken_not c.command_of.result _ c.in-Some.command c.command_of.ensures c.in-Some.is p.0),
 )
 
 pub returns-in-Ok-clause-whole : goal.returns-in-Ok-clause-whole
@@ -55,8 +55,8 @@ returns-in-Err-Memory-clause-answer g c =
     let faults = rw c.in-Err-Memory.field-0-is at c.in-Err-Memory.ensures.faults in
     (told.0, told.1, record { read_faults = faults; write_faults = refl; held = refl })
 
-pub returns-then-not-taken-clause-too_long : goal.returns-then-not-taken-clause-too_long
-returns-then-not-taken-clause-too_long g c =
+pub returns-in_default-clause-too_long : goal.returns-in_default-clause-too_long
+returns-in_default-clause-too_long g c =
     λ e. let ends = rw e at c.finish.ensures.ends 0 in let due = ends.due in let none : ⊥ = cc in absurd none
 
 pub returns-in-Ok-clause-too_long : goal.returns-in-Ok-clause-too_long

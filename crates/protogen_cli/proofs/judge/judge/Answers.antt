@@ -6,4 +6,4 @@ pub returns-in_ok-too_long-in-Err-TooLong-clause-reply :
 returns-in_ok-too_long-in-Err-TooLong-clause-reply g c =
     let left = g.S.Source.left c.read_all.new.source in
     let given = rw c.in-Err-TooLong.field-0-is at c.in-Err-TooLong.ensures.taken in
-    rw c.in_ok-too_long-in-Err-TooLong.ensures (long_told _ left given)
+    rw c.in_ok-too_long-in-Err-TooLong.ensures (long_told c.args.command _ left given)

@@ -1,0 +1,48 @@
+#!/usr/bin/env bash
+# Times `atomic` on scripts of 1,024 to 16,384 operations over 64 blocks and 32 cores, behind MSI and MOESI, beside `LC_ALL=C wc -w` on the
+# input and the output together. Run it after the program was proved and built. Each is run often, and the fastest run counts.
+cd "$(dirname "$0")/.." || exit 2
+program=crates/protogen/out/protogen
+[ -x "$program" ] || { echo "bench: build the program first, by ./protogen" >&2; exit 2; }
+folder=$(mktemp -d)
+trap 'rm -rf "$folder"' EXIT
+for protocol in msi moesi; do
+    for operations in 1024 2048 4096 8192 16384; do
+        name=$folder/$protocol-$operations
+        { cat "protocols/$protocol.txt"; awk -v operations="$operations" 'BEGIN {
+            print "cores 32\nblocks 64"
+            x = 1
+            for (k = 0; k < operations; k++) {
+                x = (x * 1103515245 + 12345) % 2147483648; core = int(x / 65536) % 32
+                x = (x * 1103515245 + 12345) % 2147483648; block = int(x / 65536) % 64
+                x = (x * 1103515245 + 12345) % 2147483648; kind = int(x / 65536) % 8
+                if (kind < 4) print "op " core " load " block
+                else if (kind < 7) print "op " core " store " block " " k
+                else print "op " core " evict " block
+            }
+            print "done"
+        }'; } >"$name"
+        "$program" atomic <"$name" >"$name.out" || { echo "bench: $name" >&2; exit 1; }
+        cat "$name" "$name.out" >"$name.both"
+    done
+done
+python3 - "$program" "$folder" <<'PYTHON'
+import os, subprocess, sys, time
+program, folder = sys.argv[1:]
+def fastest(command, path):
+    best = float("inf")
+    for _ in range(100):
+        with open(path, "rb") as source:
+            start = time.perf_counter()
+            done = subprocess.run(command, stdin=source, stdout=subprocess.DEVNULL, env={"LC_ALL": "C"})
+            best = min(best, time.perf_counter() - start)
+        assert done.returncode == 0, (command, done.returncode)
+    return best
+for protocol in ("msi", "moesi"):
+    for operations in (1024, 2048, 4096, 8192, 16384):
+        path = os.path.join(folder, f"{protocol}-{operations}")
+        run = fastest([program, "atomic"], path)
+        words = fastest(["/usr/bin/wc", "-w"], path + ".both")
+        size = os.path.getsize(path + ".both")
+        print(f"{protocol}, {operations} operations ({size} bytes in and out): atomic {run * 1000:.2f} ms, wc -w {words * 1000:.2f} ms, ratio {run / words:.2f}")
+PYTHON
