@@ -3,3 +3,4 @@ pub mod Choices
 pub mod Generated
 pub mod Home
 pub mod Worked
+pub mod Tables

@@ -4,9 +4,15 @@
 #![tactic(auto)]
 
 mod cache;
+mod dir_table;
 mod home;
 mod laws;
+mod table;
+#[cfg(test)]
+mod tests;
 
 pub use cache::{Act, Acts, Desc, Input, Inputs, Phase, Row, Rows, Tag};
+pub use dir_table::{DirTable, DirTableState};
 pub use home::{DirAct, DirActs, DirDesc, DirInput, DirInputs, DirRow, DirRows};
 pub use laws::{worked_states, worked_tables};
+pub use table::{Table, TableState};
