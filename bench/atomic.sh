@@ -26,23 +26,14 @@ for protocol in msi moesi; do
         cat "$name" "$name.out" >"$name.both"
     done
 done
-python3 - "$program" "$folder" <<'PYTHON'
-import os, subprocess, sys, time
+PYTHONPATH=bench PYTHONDONTWRITEBYTECODE=1 python3 - "$program" "$folder" <<'PYTHON'
+import os, sys
+from fastest import fastest, words
 program, folder = sys.argv[1:]
-def fastest(command, path):
-    best = float("inf")
-    for _ in range(100):
-        with open(path, "rb") as source:
-            start = time.perf_counter()
-            done = subprocess.run(command, stdin=source, stdout=subprocess.DEVNULL, env={"LC_ALL": "C"})
-            best = min(best, time.perf_counter() - start)
-        assert done.returncode == 0, (command, done.returncode)
-    return best
 for protocol in ("msi", "moesi"):
     for operations in (1024, 2048, 4096, 8192, 16384):
         path = os.path.join(folder, f"{protocol}-{operations}")
-        run = fastest([program, "atomic"], path)
-        words = fastest(["/usr/bin/wc", "-w"], path + ".both")
-        size = os.path.getsize(path + ".both")
-        print(f"{protocol}, {operations} operations ({size} bytes in and out): atomic {run * 1000:.2f} ms, wc -w {words * 1000:.2f} ms, ratio {run / words:.2f}")
+        run = fastest([program, "atomic"], path, 100, (0,))
+        wc, size = words(path + ".both", 100)
+        print(f"{protocol}, {operations} operations ({size} bytes in and out): atomic {run * 1000:.2f} ms, wc -w {wc * 1000:.2f} ms, ratio {run / wc:.2f}")
 PYTHON

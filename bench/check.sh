@@ -39,21 +39,12 @@ BEGIN {
     for (k = 0; k < 56; k++) print "row " name("S", k % 16) " " name("R", k % 10) " other " name("F", k % 11) " " name("S", k % 16)
     print "end"
 }' >"$folder/limits"
-python3 - "$program" "$folder/newlines" "$folder/lines" "$folder/limits" <<'PYTHON'
-import os, subprocess, sys, time
+PYTHONPATH=bench PYTHONDONTWRITEBYTECODE=1 python3 - "$program" "$folder/newlines" "$folder/lines" "$folder/limits" <<'PYTHON'
+import os, sys
+from fastest import fastest, words
 program = sys.argv[1]
-def fastest(command, path):
-    best = float("inf")
-    for _ in range(200):
-        with open(path, "rb") as source:
-            start = time.perf_counter()
-            done = subprocess.run(command, stdin=source, stdout=subprocess.DEVNULL, env={"LC_ALL": "C"})
-            best = min(best, time.perf_counter() - start)
-        assert done.returncode in (0, 1), (command, done.returncode)
-    return best
 for path in sys.argv[2:]:
-    check = fastest([program, "check"], path)
-    words = fastest(["/usr/bin/wc", "-w"], path)
-    name, size = os.path.basename(path), os.path.getsize(path)
-    print(f"{name} ({size} bytes): check {check * 1000:.2f} ms, wc -w {words * 1000:.2f} ms, ratio {check / words:.2f}")
+    check = fastest([program, "check"], path, 200, (0, 1))
+    wc, size = words(path, 200)
+    print(f"{os.path.basename(path)} ({size} bytes): check {check * 1000:.2f} ms, wc -w {wc * 1000:.2f} ms, ratio {check / wc:.2f}")
 PYTHON

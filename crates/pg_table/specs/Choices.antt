@@ -10,13 +10,12 @@ use Rattle.pg_perm.specs.declared.kinds.FwdClass.TheVariants as class
 use Rattle.pg_perm.specs.declared.draft.Draft.{Draft}
 use Rattle.pg_perm.specs.declared.draft.CoreForm.{CoreForm}
 use Rattle.pg_perm.specs.declared.draft.CoreForm.TheVariants as form
-use Rattle.pg_perm.specs.declared.draft.ReplyName.{ReplyName}
 use Rattle.pg_perm.specs.declared.draft.ReplyName.TheVariants as reply
 use Rattle.pg_terms.specs.Terms.{is, cache_is, out, shared, request_of, has_class, core_row, take_row, keep_of}
 use Rattle.pg_terms.specs.Due.{is_due}
 use Rattle.pg_shape.specs.TakeRules.{may_keep}
 use Rattle.pg_shape.specs.CoreRules.{allows, store_next}
-use Rattle.pg_shape.specs.NextRules.{final_under}
+use Rattle.pg_standing.specs.Requests.{final}
 use Rattle.pg_table.specs.declared.cache.Desc.{Desc}
 use Rattle.pg_table.specs.declared.cache.Desc.TheVariants.{Stable, Ask, Leave}
 use Rattle.pg_table.specs.declared.cache.Phase.{Phase}
@@ -108,10 +107,6 @@ abbrev pub serves : Tag → List Act
 serves Plain = []
 serves _ = act.Serve ∷ []
 
--- the final state of an operation that began in this state, under a reply
-abbrev pub fin : Draft → ℕ → Event → ReplyName → Option ℕ
-fin d s event name = option_and_then (λ l. final_under name l.form) (core_row d s event)
-
 -- the operation is done, and ends where its tag tells
 abbrev pub ends : Draft → Tag → List Act → Option ℕ → List Choice
 ends d tag acts f = given (option_and_then (λ x. after d x tag) f) (λ x. only (acts ++ act.Done ∷ [] ++ serves tag) (Stable x))
@@ -121,7 +116,7 @@ abbrev pub shares : Draft → List Choice → List Choice
 shares d choices = if is_some (shared d) then choices else []
 
 abbrev pub when_loading : Draft → ℕ → Tag → Input → List Choice
-when_loading d s tag (at.DataAll r) = ends d tag (act.Fill ∷ []) (fin d s Load (reply.Reply r))
+when_loading d s tag (at.DataAll r) = ends d tag (act.Fill ∷ []) (final d s Load (reply.Reply r))
 when_loading d s tag (at.Forward f) = later d s Load D tag f
 when_loading d s tag _ = []
 
@@ -135,14 +130,14 @@ is_earlier d s Plain f = is (shared d) s && has_class class.Inv d f
 is_earlier d s _ f = false
 
 abbrev pub when_storing : Draft → ℕ → Tag → Input → List Choice
-when_storing d s tag (at.DataAll r) = ends d tag (act.Fill ∷ []) (fin d s Store (reply.Reply r))
-when_storing d s tag (at.DataPart r) = shares d (given (fin d s Store (reply.Reply r)) (λ x. only (act.Fill ∷ act.Need ∷ []) (Ask Store s A tag)))
+when_storing d s tag (at.DataAll r) = ends d tag (act.Fill ∷ []) (final d s Store (reply.Reply r))
+when_storing d s tag (at.DataPart r) = shares d (given (final d s Store (reply.Reply r)) (λ x. only (act.Fill ∷ act.Need ∷ []) (Ask Store s A tag)))
 when_storing d s tag at.AckMore = shares d (only (act.Count ∷ []) (Ask Store s Ad tag))
 when_storing d s tag (at.Forward f) = if is_earlier d s tag f then earlier d s f else later d s Store Ad tag f
 when_storing d s tag _ = []
 
 abbrev pub when_upgrading : Draft → ℕ → Input → List Choice
-when_upgrading d s at.CountAll = ends d Plain [] (fin d s Store reply.AckCount)
+when_upgrading d s at.CountAll = ends d Plain [] (final d s Store reply.AckCount)
 when_upgrading d s at.CountPart = shares d (only (act.Need ∷ []) (Ask Store s A Plain))
 when_upgrading d s at.AckMore = shares d (only (act.Count ∷ []) (Ask Store s Ac Plain))
 when_upgrading d s (at.Forward f) = earlier d s f
