@@ -15,7 +15,8 @@ use Rattle.pg_terms.specs.Due.{kind_is}
 use Rattle.pg_perm.specs.declared.kinds.Perm.{Perm}
 use Rattle.pg_perm.specs.declared.kinds.Perm.TheVariants as perm
 use Rattle.pg_shape.specs.Shaped.{IsShaped}
-use Rattle.pg_shape.specs.CoreRules.{allows, is_hit, store_next}
+use Rattle.pg_shape.specs.CoreRules.{is_hit}
+use Rattle.pg_terms.specs.Rows.{allows, store_next}
 use Rattle.pg_standing.specs.Standings.{Standing, who, is_among}
 use Rattle.pg_standing.specs.Sound.{IsSound, fits, fits_as}
 use Rattle.pg_atomic.specs.States.{State, state_of, hit_next}

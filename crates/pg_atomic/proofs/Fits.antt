@@ -12,7 +12,7 @@ use Rattle.pg_perm.specs.declared.draft.Draft.{Draft}
 use Rattle.pg_perm.specs.declared.draft.CacheLine.{CacheLine}
 use Rattle.pg_terms.specs.Terms.{is, is_out, is_shared, is_owner, is_none_perm, is_read_perm, is_write_perm, is_read_owner, is_write_owner, cache_is, out, shared, lists}
 use Rattle.pg_shape.specs.Shaped.{IsShaped, IsCache}
-use Rattle.pg_shape.specs.CoreRules.{allows}
+use Rattle.pg_terms.specs.Rows.{allows}
 use Rattle.pg_shape.proofs.Searches.{position_get, map_or_get}
 use Rattle.pg_standing.specs.Sound.{fits_as}
 

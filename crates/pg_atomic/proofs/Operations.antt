@@ -1,5 +1,5 @@
 -- Runs, and the steps of operations.
-use Rattle.pg_shape.specs.CoreRules.{allows}
+use Rattle.pg_terms.specs.Rows.{allows}
 use Rattle.pg_terms.specs.Terms.{cache_is}
 use Rattle.std.proofs.lemmas.List.{length-replicate}
 use Rattle.std.proofs.Common.{◌≡◌, ◌≢◌, ℕ, ◌+◌, ◌<◌, true, false, Bool, List, [], ◌∷◌, ◌++◌, length, get_or, refl, ap, ◌∙◌, arith}

@@ -24,9 +24,8 @@ use Rattle.pg_perm.specs.declared.draft.Action.{Action}
 use Rattle.pg_perm.specs.declared.draft.Action.TheVariants as action
 use Rattle.pg_terms.specs.Terms.{is, is_out, is_shared, is_owner, cache_is, same_event, out, shared, forward_of, has_class, lists, core_row, take_row}
 use Rattle.pg_terms.specs.Due.{forward_in, is_due, is_to_owner, is_passed_to}
-use Rattle.pg_shape.specs.Shaped.{IsShaped, IsCache, action_in}
-use Rattle.pg_shape.specs.CoreRules.{allows}
-use Rattle.pg_shape.specs.NextRules.{reply_to}
+use Rattle.pg_shape.specs.Shaped.{IsShaped, IsCache}
+use Rattle.pg_terms.specs.Rows.{action_in, allows, reply_to}
 use Rattle.pg_shape.proofs.Bools.{one_of, one_three, true_not}
 use Rattle.pg_shape.proofs.Rows.{row_at}
 use Rattle.pg_standing.specs.Standings.{Standing, Request, who, row_of, case_of, after, is_among}

@@ -11,7 +11,8 @@ use Rattle.pg_terms.specs.Terms.{core_row, take_row}
 use Rattle.pg_standing.specs.Standings.{Request, row_of}
 use Rattle.pg_standing.specs.Sends.{sent}
 use Rattle.pg_standing.specs.Sound.{IsSound, fits}
-use Rattle.pg_standing.specs.Requests.{action_of, final}
+use Rattle.pg_standing.specs.Requests.{action_of}
+use Rattle.pg_terms.specs.Rows.{final}
 use Rattle.pg_atomic.specs.States.{State, state_of, reply_got}
 use Rattle.pg_atomic.specs.Steps.{may, needs}
 

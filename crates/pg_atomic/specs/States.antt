@@ -9,11 +9,10 @@ use Rattle.pg_perm.specs.declared.draft.ReplyName.TheVariants as reply
 use Rattle.pg_perm.specs.declared.draft.Action.{Action}
 use Rattle.pg_perm.specs.declared.draft.Action.TheVariants as action
 use Rattle.pg_terms.specs.Terms.{out, take_row, core_row}
-use Rattle.pg_shape.specs.CoreRules.{store_next}
-use Rattle.pg_shape.specs.NextRules.{reply_to}
+use Rattle.pg_terms.specs.Rows.{store_next, reply_to, final}
 use Rattle.pg_standing.specs.Standings.{Standing, Request, start, after}
 use Rattle.pg_standing.specs.Sends.{sent}
-use Rattle.pg_standing.specs.Requests.{action_of, final}
+use Rattle.pg_standing.specs.Requests.{action_of}
 
 -- the stable state of each core, what the directory knows, and the block's word
 pub record State : Type 0 where

@@ -6,7 +6,7 @@ use Rattle.pg_perm.specs.declared.step.Step.{Step}
 use Rattle.pg_perm.specs.declared.step.Step.TheVariants.{Txn, Stale, Load, Store}
 use Rattle.pg_perm.specs.declared.draft.Draft.{Draft}
 use Rattle.pg_terms.specs.Terms.{is, out, cache_is}
-use Rattle.pg_shape.specs.CoreRules.{allows}
+use Rattle.pg_terms.specs.Rows.{allows}
 use Rattle.pg_standing.specs.Standings.{Request}
 use Rattle.pg_atomic.specs.States.{State, state_of, opening, transact, hit_next}
 

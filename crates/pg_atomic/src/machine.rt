@@ -3,11 +3,10 @@ ghost use Rattle.std.specs.Option.{option_and_then};
 ghost use Rattle.pg_perm.specs.declared.step.Step.TheVariants as step;
 ghost use Rattle.pg_standing.specs.Standings as standings;
 ghost use Rattle.pg_standing.specs.Sends.{sent, sent_by};
-ghost use Rattle.pg_standing.specs.Requests as requests;
-ghost use Rattle.pg_shape.specs.NextRules as next_rule;
 ghost use Rattle.pg_terms.specs.Terms as term;
 ghost use Rattle.pg_perm.specs.Drafts.{IsWellFormed};
-ghost use Rattle.pg_shape.specs.Shaped.{IsShaped, action_in};
+ghost use Rattle.pg_shape.specs.Shaped.{IsShaped};
+ghost use Rattle.pg_terms.specs.Rows as says;
 ghost use Rattle.pg_atomic.specs.States as states;
 ghost use Rattle.pg_atomic.specs.Steps as steps;
 ghost use Rattle.pg_atomic.specs.Accesses as accesses;
@@ -202,10 +201,10 @@ impl Atomic {
     fn final_state(&self, draft: &Draft, core: u32, event: Event, row: &RowLine) -> Option<u8>
         requires core { core < length self.now.states }
         requires owner { (o : ℕ) → self.now.home.owner ≡ Some o → o < length self.now.states }
-        ensures { result ≡ option_and_then (requests.final draft.now (states.state_of self.now core) event) (states.reply_by draft.now self.now (action_in row.now.form)) }
+        ensures { result ≡ option_and_then (says.final draft.now (states.state_of self.now core) event) (states.reply_by draft.now self.now (says.action_in row.now.form)) }
     {
-        let name = self.reply(draft, rows::action_in(row.form)?)?;
-        rows::final_state(draft, self.states[core as usize], event, name)
+        let name = self.reply(draft, terms::action_in(row.form)?)?;
+        terms::final_state(draft, usize::from(self.states[core as usize]), event, name)
     }
 
     /// The reply that who asks gets.
@@ -225,10 +224,14 @@ impl Atomic {
     /// What the owner answers to a forward.
     fn owners_reply(&self, draft: &Draft, forward: u8) -> Option<u8>
         requires { (o : ℕ) → self.now.home.owner ≡ Some o → o < length self.now.states }
-        ensures { result ≡ option_and_then (λ o. next_rule.reply_to draft.now (states.state_of self.now o) forward) self.now.home.owner }
+        ensures { result ≡ option_and_then (λ o. says.reply_to draft.now (states.state_of self.now o) forward) self.now.home.owner }
     {
         let owner = self.owner?;
-        rows::reply_to(draft, self.states[owner as usize], forward)
+        terms::reply_to(
+            draft,
+            usize::from(self.states[owner as usize]),
+            usize::from(forward),
+        )
     }
 
     /// Who asks moves to the state in which it ends, and each core that is sent a forward takes it.
@@ -311,7 +314,7 @@ impl Atomic {
         requires owner { (o : ℕ) → self.old.home.owner ≡ Some o → o < length self.old.states }
         ensures { self.new ≡ record self.old { home = standings.after_row draft.now row.now Event.Load core self.old.home } }
     {
-        if rows::is_by_share(draft, row) {
+        if terms::is_by_share(draft, row) {
             self.share();
         }
         if terms::kind_is(DirKind::Owned, draft, usize::from(row.next)) {

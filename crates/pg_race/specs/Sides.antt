@@ -16,7 +16,7 @@ side_of_sharer Share = After
 side_of_sharer Keep = After
 side_of_sharer Drop = After
 
--- who holds nothing is sent a forward only once it was granted, and an owner only before
+-- who holds nothing is sent a forward only once the directory has handled its request, and an owner only before
 abbrev pub side_of_start : Role → FwdClass → Side
 side_of_start role.Out class = After
 side_of_start role.Shared class = side_of_sharer class

@@ -36,8 +36,8 @@ use Rattle.pg_terms.specs.Terms.{is_out, is_shared, is_owner, is_none_perm, is_r
 use Rattle.pg_terms.specs.Due.{same_reply, is_row_for, is_row_from, is_answer, row_brings, is_load_reply, is_store_reply}
 use Rattle.pg_shape.specs.TextRules.{lacks_requests}
 use Rattle.pg_shape.specs.CacheRules.{has_wrong_perm}
-use Rattle.pg_shape.specs.CoreRules.{allows, is_hit, leaves_out, asks_needlessly, hits_without_perm, moves_at_load, class_of, asks_otherwise, is_asked, names, names_twice, names_another, misses, misses_below, misses_reply, names_wrongly, has_wrong_replies, is_no_load_final, is_dirty_writer, stays, moves_at_store, is_no_store_final, ends_differ, ends_wrongly, breaks_s7, store_next, parts, asks_class, leaves_by_another, leaves_wrongly, is_from_cache, is_unclean, ends_unclean}
-use Rattle.pg_shape.specs.NextRules.{pair_under, final_under}
+use Rattle.pg_shape.specs.CoreRules.{is_hit, leaves_out, asks_needlessly, hits_without_perm, moves_at_load, class_of, asks_otherwise, is_asked, names, names_twice, names_another, misses, misses_below, misses_reply, names_wrongly, has_wrong_replies, is_no_load_final, is_dirty_writer, stays, moves_at_store, is_no_store_final, ends_differ, ends_wrongly, breaks_s7, parts, asks_class, leaves_by_another, leaves_wrongly, is_from_cache, is_unclean, ends_unclean}
+use Rattle.pg_terms.specs.Rows.{allows, store_next, pair_under, final_under}
 use Rattle.pg_shape.specs.ShapeFaults.{HasShape}
 use Rattle.pg_shape.specs.Shaped.{HasCores}
 use Rattle.pg_shape.proofs.Bools.{three_not, three_and, and_not, not_false, one_of}
@@ -47,7 +47,7 @@ use Rattle.pg_shape.proofs.Shaped.{text_keeps, cache_keeps, core_keeps, has_core
 -- Tests, lists and options
 
 -- all of four are so
-four_and : (a b c d : Bool) → (a && b && c && d) ≡ true → (a ≡ true) × (b ≡ true) × (c ≡ true) × (d ≡ true)
+pub four_and : (a b c d : Bool) → (a && b && c && d) ≡ true → (a ≡ true) × (b ≡ true) × (c ≡ true) × (d ≡ true)
 four_and true true true d h = (refl, refl, refl, h)
 four_and true true false d h = absurd cc
 four_and true false c d h = absurd cc
@@ -75,13 +75,13 @@ any_find p (y ∷ xs) h = at (p y) h (any_find p xs)
     at false h behind = behind h
 
 -- what is asked of a cache state is asked of its line
-at_cache : (test : CacheLine → Bool) (d : Draft) (s : ℕ) (c : CacheLine) → slice_get d.caches s ≡ Some c → cache_is test d s ≡ test c
+pub at_cache : (test : CacheLine → Bool) (d : Draft) (s : ℕ) (c : CacheLine) → slice_get d.caches s ≡ Some c → cache_is test d s ≡ test c
 at_cache test d s c e = ap (λ (o : Option CacheLine). option_map_or test o false) e
 
 -- Well-formed drafts
 
 -- what core, take and row lines name is declared
-all_formed : (d : Draft) → IsWellFormed d
+pub all_formed : (d : Draft) → IsWellFormed d
     → (list_all (has_core d) d.cores ≡ true) × (list_all (has_take d) d.takes ≡ true) × (list_all (has_row d) d.rows ≡ true)
 all_formed d w =
     let (dirs, cores, takes, rows) =
@@ -89,7 +89,7 @@ all_formed d w =
     (cores, takes, rows)
 
 -- a core line is in the form of its event
-core_formed : (d : Draft) → IsWellFormed d → (k : ℕ) (x : CoreLine) → slice_get d.cores k ≡ Some x → has_core_form d x.event x.form ≡ true
+pub core_formed : (d : Draft) → IsWellFormed d → (k : ℕ) (x : CoreLine) → slice_get d.cores k ≡ Some x → has_core_form d x.event x.form ≡ true
 core_formed d w k x e =
     let formed : has_core d x ≡ true = all_at (has_core d) d.cores k x (all_formed d w).0 e in
     (both (has_cache d x.state) (has_core_form d x.event x.form) formed).1
@@ -165,7 +165,7 @@ record Keeps (d : Draft) (s : ℕ) (event : Event) (form : CoreForm) : Type 0 wh
   cleans : ends_unclean d event form ≡ false
 
 -- a core row is a line of its state and event
-core_row_get : (d : Draft) (s : ℕ) (event : Event) (x : CoreLine) → core_row d s event ≡ Some x
+pub core_row_get : (d : Draft) (s : ℕ) (event : Event) (x : CoreLine) → core_row d s event ≡ Some x
     → (k : ℕ) × (slice_get d.cores k ≡ Some x) × (x.state ≡ s) × (x.event ≡ event)
 core_row_get d s event x e =
     let (k, g, passes) = find_get (λ c. (c.state == s) && same_event c.event event) d.cores x e in
@@ -289,7 +289,7 @@ asked_final d w h s event c form name keeps stays_in e lacks asked =
 -- Where a core ends
 
 -- a final state is that of a pair with the reply
-final_get : (name : ReplyName) (pairs : List Pair) (t : ℕ) → option_map (λ (p : Pair). p.fin) (pair_under name pairs) ≡ Some t
+pub final_get : (name : ReplyName) (pairs : List Pair) (t : ℕ) → option_map (λ (p : Pair). p.fin) (pair_under name pairs) ≡ Some t
     → (k : ℕ) × (p : Pair) × (slice_get pairs k ≡ Some p) × (same_reply p.reply name ≡ true) × (p.fin ≡ t)
 final_get name pairs t h = at (pair_under name pairs) refl h
   where
@@ -351,7 +351,7 @@ store_ends_once d s t u a b (Ask request pairs) keeps e f =
     sym fin_p ∙ one_end pairs j k p q none.1 g i ∙ fin_q
 
 -- names of the same reply are the same
-reply_equal : (a b : ReplyName) → same_reply a b ≡ true → a ≡ b
+pub reply_equal : (a b : ReplyName) → same_reply a b ≡ true → a ≡ b
 reply_equal reply.AckCount reply.AckCount h = refl
 reply_equal (reply.Reply m) (reply.Reply n) h = ap reply.Reply (eqb-true m n h)
 reply_equal _ _ h = absurd cc
@@ -423,31 +423,31 @@ leaves_right d s m event c form keeps e leaves =
 -- Roles and permissions
 
 -- the role of a state by its test
-role_out : (r : Role) → is_out r ≡ true → r ≡ role.Out
+pub role_out : (r : Role) → is_out r ≡ true → r ≡ role.Out
 role_out role.Out h = refl
 role_out role.Shared h = absurd cc
 role_out role.Owner h = absurd cc
 
 -- likewise of shared
-role_shared : (r : Role) → is_shared r ≡ true → r ≡ role.Shared
+pub role_shared : (r : Role) → is_shared r ≡ true → r ≡ role.Shared
 role_shared role.Out h = absurd cc
 role_shared role.Shared h = refl
 role_shared role.Owner h = absurd cc
 
 -- and of an owner
-role_owner : (r : Role) → is_owner r ≡ true → r ≡ role.Owner
+pub role_owner : (r : Role) → is_owner r ≡ true → r ≡ role.Owner
 role_owner role.Out h = absurd cc
 role_owner role.Shared h = absurd cc
 role_owner role.Owner h = refl
 
 -- no permission doesn't allow a store
-none_writes_not : (p : Perm) → is_none_perm p ≡ true → is_write_perm p ≡ false
+pub none_writes_not : (p : Perm) → is_none_perm p ≡ true → is_write_perm p ≡ false
 none_writes_not perm.None h = refl
 none_writes_not perm.Read h = absurd cc
 none_writes_not perm.Write h = absurd cc
 
 -- nor does a permission to read
-read_writes_not : (p : Perm) → is_read_perm p ≡ true → is_write_perm p ≡ false
+pub read_writes_not : (p : Perm) → is_read_perm p ≡ true → is_write_perm p ≡ false
 read_writes_not perm.None h = absurd cc
 read_writes_not perm.Read h = refl
 read_writes_not perm.Write h = absurd cc

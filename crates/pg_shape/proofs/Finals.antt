@@ -26,9 +26,10 @@ use Rattle.pg_perm.specs.declared.draft.Action.TheVariants as action
 use Rattle.pg_terms.specs.declared.cases.DirCase.TheVariants as case
 use Rattle.pg_terms.specs.Terms.{is, is_out, is_shared, is_read_owner, cache_is, out, shared, request_of, same_who, lists, core_row, take_row, dir_row}
 use Rattle.pg_terms.specs.Due.{same_kind, due_cases, lists_read_owner, same_case, is_due_case, is_row_for, is_row_from, is_answer, brings, row_brings, is_load_reply, is_store_reply}
-use Rattle.pg_shape.specs.NextRules.{requester_row, final_under, final_of, reply_to, final_by, upgrade_of}
+use Rattle.pg_shape.specs.NextRules.{requester_row, final_of, final_by, upgrade_of}
+use Rattle.pg_terms.specs.Rows.{final_under, reply_to, action_in}
 use Rattle.pg_shape.specs.ShapeFaults.{HasShape}
-use Rattle.pg_shape.specs.Shaped.{action_in, HasLists, HasTakes, HasRows, HasCores}
+use Rattle.pg_shape.specs.Shaped.{HasLists, HasTakes, HasRows, HasCores}
 use Rattle.pg_shape.proofs.Bools.{and_both}
 use Rattle.pg_shape.proofs.Searches.{any_at, find_get, position_get, map_or_get, not_both}
 use Rattle.pg_shape.proofs.Shaped.{has_out, has_core_row, row_is_due, who_same}

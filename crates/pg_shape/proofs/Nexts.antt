@@ -22,9 +22,10 @@ use Rattle.pg_perm.specs.declared.fault.Rule.TheVariants.{S17}
 use Rattle.pg_terms.specs.declared.cases.DirCase.TheVariants as case
 use Rattle.pg_terms.specs.Terms.{is, is_owner, is_read_owner, cache_is, shared, request_of, has_class, listed, lists, dir_row, keep_of}
 use Rattle.pg_terms.specs.Due.{kind_is, forward_in}
-use Rattle.pg_shape.specs.NextRules.{final_of, reply_to, final_by, upgrade_of, lists_owner, is_read_end, is_shared_by, is_kept, is_owner_by, is_listed_by, is_upgrade_listed, are_shared, are_kept, are_owners, are_listed, are_upgraded, lists_each, leads_to_shared, leads_to_mixed, leads_to_owned, reads_rightly, lists_writer, writes_rightly, keeps_owner, leaves_rightly, evicts_rightly, leads_rightly}
+use Rattle.pg_shape.specs.NextRules.{final_of, final_by, upgrade_of, lists_owner, is_read_end, is_shared_by, is_kept, is_owner_by, is_listed_by, is_upgrade_listed, are_shared, are_kept, are_owners, are_listed, are_upgraded, lists_each, leads_to_shared, leads_to_mixed, leads_to_owned, reads_rightly, lists_writer, writes_rightly, keeps_owner, leaves_rightly, evicts_rightly, leads_rightly}
+use Rattle.pg_terms.specs.Rows.{reply_to, action_in}
 use Rattle.pg_shape.specs.ShapeFaults.{HasShape}
-use Rattle.pg_shape.specs.Shaped.{action_in, HasLists, HasTakes, HasRows, HasReads, HasWrites, HasEvicts, HasCores}
+use Rattle.pg_shape.specs.Shaped.{HasLists, HasTakes, HasRows, HasReads, HasWrites, HasEvicts, HasCores}
 use Rattle.pg_shape.proofs.Bools.{three_and, not_false, one_of, where_so}
 use Rattle.pg_shape.proofs.Shaped.{row_keeps, is_one}
 use Rattle.pg_shape.proofs.Takes.{answered}

@@ -27,7 +27,8 @@ use Rattle.pg_terms.specs.Due.{kind_is}
 use Rattle.pg_shape.specs.RowRules.{is_reply, is_count, forwards, reads_by, writes_by, acts_wrongly}
 use Rattle.pg_shape.specs.NextRules.{passes, leads_rightly}
 use Rattle.pg_shape.specs.ShapeFaults.{HasShape}
-use Rattle.pg_shape.specs.Shaped.{action_in, HasRows}
+use Rattle.pg_shape.specs.Shaped.{HasRows}
+use Rattle.pg_terms.specs.Rows.{action_in}
 use Rattle.pg_shape.proofs.Bools.{three_not, and_not, not_false, or_so, one_of, one_three, where_so}
 use Rattle.pg_shape.proofs.Searches.{any_get, all_at, find_get, some_of}
 use Rattle.pg_shape.proofs.Shaped.{row_keeps, who_equal, left_equal, row_is_due, due_case_has_row}

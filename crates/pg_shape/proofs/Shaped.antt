@@ -167,7 +167,7 @@ left_equal Last Last h = refl
 left_equal More More h = refl
 left_equal _ _ h = absurd cc
 
-request_equal : (a b : ReqClass) → same_request a b ≡ true → a ≡ b
+pub request_equal : (a b : ReqClass) → same_request a b ≡ true → a ≡ b
 request_equal Read Read h = refl
 request_equal Write Write h = refl
 request_equal Clean Clean h = refl
@@ -179,11 +179,11 @@ who_same Other = refl
 who_same Sharer = refl
 who_same Owner = refl
 
-left_same : (a : Left) → same_left a a ≡ true
+pub left_same : (a : Left) → same_left a a ≡ true
 left_same Last = refl
 left_same More = refl
 
-request_same : (a : ReqClass) → same_request a a ≡ true
+pub request_same : (a : ReqClass) → same_request a a ≡ true
 request_same Read = refl
 request_same Write = refl
 request_same Clean = refl

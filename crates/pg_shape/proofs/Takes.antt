@@ -27,7 +27,8 @@ use Rattle.pg_terms.specs.declared.cases.DirCase.TheVariants as case
 use Rattle.pg_terms.specs.Terms.{is, is_other, is_owner, is_read_owner, is_forward_of, cache_is, out, shared, request_of, forward_of, has_class, listed, lists, take_row, is_case, same_who, keep_of}
 use Rattle.pg_terms.specs.Due.{same_kind, kind_is, forward_in, is_to_owner, is_passed_to, is_due, cases_at, same_case, is_due_case}
 use Rattle.pg_shape.specs.DirRules.{has_no_owner}
-use Rattle.pg_shape.specs.TakeRules.{invalidates_wrongly, shares_wrongly, keeps_wrongly, drops_wrongly, answers_wrongly, takes_wrongly, may_keep, keeps_moving}
+use Rattle.pg_shape.specs.TakeRules.{invalidates_wrongly, shares_wrongly, keeps_wrongly, drops_wrongly, answers_wrongly, takes_wrongly, keeps_moving}
+use Rattle.pg_terms.specs.Rows.{may_keep}
 use Rattle.pg_shape.specs.RowRules.{is_reply, reads_by, writes_by, acts_wrongly}
 use Rattle.pg_shape.specs.ShapeFaults.{HasShape}
 use Rattle.pg_shape.specs.Shaped.{HasTakes, HasLists}

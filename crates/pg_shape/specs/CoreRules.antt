@@ -22,12 +22,7 @@ use Rattle.pg_perm.specs.declared.fault.Rule.{Rule}
 use Rattle.pg_perm.specs.declared.fault.Rule.TheVariants.{S7, S9, S10, S11, S19}
 use Rattle.pg_terms.specs.Terms.{is_out, is_owner, is_none_perm, is_write_perm, same_event, is_request_of, is, is_other, is_write_owner, cache_is, shared, request_of, lists_state, core_row}
 use Rattle.pg_terms.specs.Due.{same_reply, is_load_reply, is_store_reply}
-
--- a permission allows an event: any but none allows a load, and write a store
-abbrev pub allows : Event → CacheLine → Bool
-allows Load c = not (is_none_perm c.perm)
-allows Store c = is_write_perm c.perm
-allows Evict c = false
+use Rattle.pg_terms.specs.Rows.{allows, store_next}
 
 abbrev pub is_hit : CoreForm → Bool
 is_hit (Hit next) = true
@@ -169,12 +164,6 @@ breaks_s7 d c = leaves_out d c || asks_needlessly d c || hits_without_perm d c |
 -- a core line above it is for the same state and event
 abbrev pub has_core_line : List CoreLine → CoreLine → Bool
 has_core_line above c = list_any (λ x. (x.state == c.state) && same_event x.event c.event) above
-
--- the state that a store in state s leads to where it is a hit
-abbrev pub store_next : ℕ → Event → CoreForm → Option ℕ
-store_next s Store (Hit None) = Some s
-store_next s Store (Hit (Some next)) = Some next
-store_next s _ _ = None
 
 -- the directory state lists one of two states and not the other
 abbrev pub parts : ℕ → ℕ → DirLine → Bool

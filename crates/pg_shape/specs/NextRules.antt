@@ -24,7 +24,8 @@ use Rattle.pg_perm.specs.declared.draft.RowForm.TheVariants as form
 use Rattle.pg_perm.specs.declared.draft.Action.{Action}
 use Rattle.pg_perm.specs.declared.draft.Action.TheVariants as action
 use Rattle.pg_terms.specs.Terms.{is_owner, is, is_read_owner, cache_is, out, shared, request_of, has_class, listed, lists, core_row, take_row, keep_of}
-use Rattle.pg_terms.specs.Due.{kind_is, same_reply}
+use Rattle.pg_terms.specs.Due.{kind_is}
+use Rattle.pg_terms.specs.Rows.{final_under, reply_to}
 
 -- what isn't there passes
 abbrev pub passes : (ℕ → Bool) → Option ℕ → Bool
@@ -36,22 +37,9 @@ requester_row d event Other = option_and_then (λ s. core_row d s event) (out d)
 requester_row d event Sharer = option_and_then (λ s. core_row d s event) (shared d)
 requester_row d event Owner = None
 
-abbrev pub pair_under : ReplyName → List Pair → Option Pair
-pair_under name pairs = find (λ p. same_reply p.reply name) pairs
-
--- the final state under a reply
-abbrev pub final_under : ReplyName → CoreForm → Option ℕ
-final_under name (Hit next) = None
-final_under name (Ask request pairs) = option_map (λ p. p.fin) (pair_under name pairs)
-final_under name (Leave request) = None
-
 -- the final state of who asks, under a reply
 abbrev pub final_of : Draft → Event → Who → ℕ → Option ℕ
 final_of d event who m = option_and_then (λ c. final_under (reply.Reply m) c.form) (requester_row d event who)
-
--- what an owner in a state answers to a forward
-abbrev pub reply_to : Draft → ℕ → ℕ → Option ℕ
-reply_to d s f = option_and_then (λ t. t.reply) (take_row d s f)
 
 -- the final state of who asks, where an owner in a state answers
 abbrev pub final_by : Draft → Event → Who → ℕ → ℕ → Option ℕ

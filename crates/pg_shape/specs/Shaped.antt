@@ -29,9 +29,9 @@ use Rattle.pg_terms.specs.declared.cases.DirCase.TheVariants as case
 use Rattle.pg_terms.specs.Terms.{is_out, is_shared, is_owner, is_none_perm, is_read_perm, is_read_owner, is_write_owner, cache_is, out, shared, request_of, forward_of, has_class, lists, core_row, take_row, dir_row, keep_of}
 use Rattle.pg_terms.specs.Due.{kind_is, forward_in, is_due, is_due_case, is_load_reply, is_store_reply}
 use Rattle.pg_shape.specs.DirRules.{has_no_owner}
-use Rattle.pg_shape.specs.CoreRules.{allows, is_hit, is_dirty_writer, stays, store_next, asks_class, is_from_cache}
-use Rattle.pg_shape.specs.TakeRules.{may_keep}
-use Rattle.pg_shape.specs.NextRules.{final_under, final_of, final_by, upgrade_of}
+use Rattle.pg_shape.specs.CoreRules.{is_hit, is_dirty_writer, stays, asks_class, is_from_cache}
+use Rattle.pg_terms.specs.Rows.{allows, store_next, may_keep, final_under, action_in}
+use Rattle.pg_shape.specs.NextRules.{final_of, final_by, upgrade_of}
 
 -- the line of a cache state
 abbrev pub IsCache : Draft → ℕ → CacheLine → Type 0
@@ -40,11 +40,6 @@ IsCache d s c = slice_get d.caches s ≡ Some c
 -- the line of a directory state
 abbrev pub IsDir : Draft → ℕ → DirLine → Type 0
 IsDir d n l = slice_get d.dirs n ≡ Some l
-
--- what a row line of this form does with a request
-abbrev pub action_in : RowForm → Option Action
-action_in (form.Ask request who action) = Some action
-action_in (form.Evict who left) = None
 
 -- out has no permission, shared may read, an owner may read at least, and only an owner is clean
 pub record HasPerms (d : Draft) : Type 0 where

@@ -9,6 +9,7 @@ use Rattle.pg_perm.specs.declared.fault.Rule.{Rule}
 use Rattle.pg_perm.specs.declared.fault.Rule.TheVariants.{S9, S12, S14}
 use Rattle.pg_terms.specs.Terms.{is, is_other, is_read_owner, cache_is, out, shared, forward_of, has_class, keep_of}
 use Rattle.pg_terms.specs.Due.{is_due}
+use Rattle.pg_terms.specs.Rows.{may_keep}
 
 -- a take line above it is for the same state and forward
 abbrev pub has_take_line : List TakeLine → TakeLine → Bool
@@ -38,10 +39,6 @@ answers_wrongly d t = (has_class Inv d t.forward && invalidates_wrongly d t) || 
 
 abbrev pub takes_wrongly : Draft → TakeLine → Bool
 takes_wrongly d t = not (is_due d t.state t.forward) || answers_wrongly d t
-
--- a cache in this state may get the keep forward
-abbrev pub may_keep : Draft → ℕ → Bool
-may_keep d s = option_map_or (is_due d s) (forward_of d Keep) false
 
 -- the keep forward leads to a state that it then leads to another
 abbrev pub keeps_moving : Draft → TakeLine → Bool

@@ -1,28 +1,19 @@
 ghost use Rattle.std.specs.Prelude.{◌≡◌, ◌≤◌, length, not};
 ghost use Rattle.std.specs.List.{list_any};
 ghost use Rattle.pg_terms.specs.Terms as term;
+ghost use Rattle.pg_terms.specs.Rows as says;
 ghost use Rattle.pg_shape.specs.CoreRules as rule;
 ghost use Rattle.pg_shape.specs.FirstFaults.{first_rule};
 
 use pg_perm::{
-    CacheLine, CoreForm, CoreLine, DirLine, Draft, Event, Pair, Perm, ReplyName, ReqClass, Role,
-    Rule, Who,
+    CacheLine, CoreForm, CoreLine, DirLine, Draft, Event, Pair, ReplyName, ReqClass, Role, Rule,
+    Who,
 };
 use pg_terms::{
-    core_row, is, is_clean_state, is_load_reply, is_other, is_out, is_owner_state, is_reply,
-    is_request_of, is_store_reply, is_write_owner, is_write_owner_state, lists_state, request_of,
-    shared,
+    allows, core_row, is, is_allowed, is_clean_state, is_load_reply, is_other, is_out,
+    is_owner_state, is_reply, is_request_of, is_store_reply, is_write_owner, is_write_owner_state,
+    lists_state, request_of, shared, store_next,
 };
-
-fn allows(event: Event, cache: &CacheLine) -> bool
-    ensures { result ≡ rule.allows event cache.now }
-{
-    match event {
-        Event::Load => cache.perm != Perm::None,
-        Event::Store => cache.perm == Perm::Write,
-        Event::Evict => false,
-    }
-}
 
 fn is_hit(form: &CoreForm) -> bool
     ensures { result ≡ rule.is_hit form.now }
@@ -48,17 +39,8 @@ fn leaves_out(draft: &Draft, line: &CoreLine) -> bool
     line.event == Event::Evict && is_out_state(draft, usize::from(line.state))
 }
 
-fn is_allowed(draft: &Draft, event: Event, state: usize) -> bool
-    ensures { result ≡ term.cache_is (rule.allows event) draft.now state }
-{
-    draft
-        .caches
-        .get(state)
-        .is_some_and(|cache| allows(event, cache))
-}
-
 fn is_not_allowed(draft: &Draft, event: Event, state: usize) -> bool
-    ensures { result ≡ term.cache_is (λ c. not (rule.allows event c)) draft.now state }
+    ensures { result ≡ term.cache_is (λ c. not (says.allows event c)) draft.now state }
 {
     draft
         .caches
@@ -335,16 +317,6 @@ fn has_core_line(above: &[CoreLine], line: &CoreLine) -> bool
     above.iter().any(|other| other.state == line.state && other.event == line.event)
 }
 
-fn store_next(state: usize, event: Event, form: &CoreForm) -> Option<usize>
-    ensures { result ≡ rule.store_next state event form.now }
-{
-    match (event, form) {
-        (Event::Store, CoreForm::Hit(None)) => Some(state),
-        (Event::Store, CoreForm::Hit(Some(next))) => Some(usize::from(*next)),
-        _ => None,
-    }
-}
-
 fn parts(state: usize, other: usize, line: &DirLine) -> bool
     ensures { result ≡ rule.parts state other line.now }
 {
@@ -365,8 +337,9 @@ fn hits_wrongly(draft: &Draft, line: &CoreLine) -> bool
     ensures { result ≡ rule.hits_wrongly draft.now line.now }
 {
     let state = usize::from(line.state);
-    match store_next(state, line.event, &line.form) {
+    match store_next(line.state, line.event, &line.form) {
         Some(next) => {
+            let next = usize::from(next);
             is_write_owner_state(draft, state)
                 && (!is_dirty_writer_state(draft, next) || are_parted(draft, state, next))
         }

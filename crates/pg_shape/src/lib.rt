@@ -4,6 +4,7 @@
 #![tactic(auto)]
 
 mod cache_rules;
+mod copy;
 mod core_rules;
 mod dir_rules;
 mod error;

@@ -3,12 +3,12 @@ ghost use Rattle.std.specs.Option.{option_copied};
 ghost use Rattle.pg_shape.specs.NextRules as rule;
 
 use pg_perm::{
-    Action, CoreForm, CoreLine, DirKind, Draft, Event, FwdClass, Left, Pair, ReplyName, ReqClass,
-    RowForm, RowLine, Who,
+    Action, CoreLine, DirKind, Draft, Event, FwdClass, Left, ReplyName, ReqClass, RowForm, RowLine,
+    Who,
 };
 use pg_terms::{
-    core_row, has_class, is, is_owner_state, is_read_owner_state, keep_of, kind_is, listed, lists,
-    out, request_of, shared, take_row,
+    core_row, final_under, has_class, is, is_owner_state, is_read_owner_state, keep_of, kind_is,
+    listed, lists, out, reply_to, request_of, shared,
 };
 
 /// The core row of who asks.
@@ -22,36 +22,20 @@ fn requester_row<'a>(draft: &'a Draft, event: Event, who: Who) -> Option<&'a Cor
     }
 }
 
-fn pair_under(name: ReplyName, pairs: &[Pair]) -> Option<&Pair>
-    ensures { option_copied result ≡ rule.pair_under name pairs.now }
-{
-    pairs.iter().find(|pair| pair.reply == name)
-}
-
-fn final_under(name: ReplyName, form: &CoreForm) -> Option<usize>
-    ensures { result ≡ rule.final_under name form.now }
-{
-    let CoreForm::Ask { pairs, .. } = form else {
-        return None;
-    };
-    let pair = pair_under(name, pairs.as_slice())?;
-    Some(usize::from(pair.fin))
-}
-
 /// The final state of who asks, under a reply.
 fn final_of(draft: &Draft, event: Event, who: Who, reply: u8) -> Option<usize>
     ensures { result ≡ rule.final_of draft.now event who reply }
 {
     let row = requester_row(draft, event, who)?;
-    final_under(ReplyName::Reply(reply), &row.form)
+    let end = final_under(ReplyName::Reply(reply), &row.form)?;
+    Some(usize::from(end))
 }
 
 /// The final state of who asks, where an owner in a state answers.
 fn final_by(draft: &Draft, event: Event, who: Who, forward: usize, state: usize) -> Option<usize>
     ensures { result ≡ rule.final_by draft.now event who forward state }
 {
-    let take = take_row(draft, state, forward)?;
-    final_of(draft, event, who, take.reply?)
+    final_of(draft, event, who, reply_to(draft, state, forward)?)
 }
 
 /// The final state of a store of an owner.
@@ -59,7 +43,8 @@ fn upgrade_of(draft: &Draft, state: usize) -> Option<usize>
     ensures { result ≡ rule.upgrade_of draft.now state }
 {
     let row = core_row(draft, state, Event::Store)?;
-    final_under(ReplyName::AckCount, &row.form)
+    let end = final_under(ReplyName::AckCount, &row.form)?;
+    Some(usize::from(end))
 }
 
 fn lists_owner(draft: &Draft, dir: usize, state: usize) -> bool

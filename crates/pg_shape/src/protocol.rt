@@ -11,11 +11,13 @@ ghost use Rattle.pg_shape.specs.Shaped.{IsShaped};
 ghost use Rattle.pg_shape.specs.FirstFaults as first;
 ghost use Rattle.pg_shape.specs.Answers.{Judges};
 
+use crate::copy::copy_draft;
 use crate::error::ShapeError;
 use crate::faults::shape_fault;
 use pg_perm::{CoreLine, Draft, Event, Perm, RowLine, TakeLine};
 use pg_terms as terms;
 use pg_terms::{DirCase, is_due};
+use std::alloc::{AllocError, Global};
 use std::marker::Model;
 
 /// A draft that has the shape of a protocol. Contracts see the draft.
@@ -54,6 +56,15 @@ pub fn shape(draft: Draft) -> Result<Protocol, ShapeError>
 }
 
 impl Protocol {
+    /// Another protocol of the same draft.
+    pub fn copy(&self, alloc: Global) -> Result<Protocol, AllocError>
+        ensures { IfOk result (λ copy. copy ≡ self.now) }
+    {
+        Ok(Protocol {
+            draft: copy_draft(alloc, &self.draft)?,
+        })
+    }
+
     /// The draft of which the protocol was made, with what the shape gives of it.
     pub fn draft(&self) -> &Draft
         ensures exact { result.now ≡ self.now }

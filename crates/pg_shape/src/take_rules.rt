@@ -4,7 +4,7 @@ ghost use Rattle.pg_shape.specs.FirstFaults.{first_rule};
 
 use pg_perm::{Draft, FwdClass, Rule, TakeLine};
 use pg_terms::{
-    forward_of, has_class, is, is_clean_state, is_due, is_other, is_read_owner_state, keep_of, out,
+    has_class, is, is_clean_state, is_due, is_other, is_read_owner_state, keep_of, may_keep, out,
     shared,
 };
 
@@ -56,15 +56,6 @@ fn takes_wrongly(draft: &Draft, line: &TakeLine) -> bool
 {
     !is_due(draft, usize::from(line.state), usize::from(line.forward))
         || answers_wrongly(draft, line)
-}
-
-fn may_keep(draft: &Draft, state: usize) -> bool
-    ensures { result ≡ rule.may_keep draft.now state }
-{
-    match forward_of(draft, FwdClass::Keep) {
-        Some(keep) => is_due(draft, state, keep),
-        None => false,
-    }
 }
 
 fn keeps_moving(draft: &Draft, line: &TakeLine) -> bool

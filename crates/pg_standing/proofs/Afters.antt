@@ -8,7 +8,8 @@ use Rattle.pg_perm.specs.declared.draft.Draft.{Draft}
 use Rattle.pg_perm.specs.declared.draft.RowLine.{RowLine}
 use Rattle.pg_terms.specs.Terms.{has_class}
 use Rattle.pg_terms.specs.Due.{kind_is, forward_in}
-use Rattle.pg_standing.specs.Standings.{Standing, Request, with_core, with_owner, row_of, is_by_share, after_row, after}
+use Rattle.pg_standing.specs.Standings.{Standing, Request, with_core, with_owner, row_of, after_row, after}
+use Rattle.pg_terms.specs.Rows.{is_by_share}
 
 pub after_is : (d : Draft) (s : Standing) (q : Request) (r : RowLine) → row_of d s q ≡ Some r → after d s q ≡ after_row d r q.event q.core s
 after_is d s q r e = ap (λ (o : Option RowLine). option_map_or (λ r. after_row d r q.event q.core s) o s) e

@@ -12,7 +12,8 @@ use Rattle.pg_perm.specs.declared.draft.Action.TheVariants as action
 use Rattle.pg_perm.specs.Drafts.{IsWellFormed}
 use Rattle.pg_terms.specs.declared.cases.DirCase.TheVariants as case
 use Rattle.pg_terms.specs.Terms.{dir_row}
-use Rattle.pg_shape.specs.Shaped.{action_in, IsShaped}
+use Rattle.pg_shape.specs.Shaped.{IsShaped}
+use Rattle.pg_terms.specs.Rows.{action_in}
 use Rattle.pg_standing.specs.Standings.{Standing, Request, who, row_of}
 use Rattle.pg_standing.specs.Sound.{IsSound, IsLegal, IsLegalAs}
 use Rattle.pg_standing.specs.Requests.{action_of}

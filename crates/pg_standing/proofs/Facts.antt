@@ -25,9 +25,10 @@ use Rattle.pg_perm.specs.declared.draft.MsgClass.TheVariants.{Request, Forward, 
 use Rattle.pg_perm.specs.declared.draft.Action.TheVariants as action
 use Rattle.pg_terms.specs.Terms.{is_out, is_shared, is_owner, is_none_perm, is_read_perm, is_write_perm, same_forward, is_forward_of, is_write_owner, is_read_owner, cache_is, out, shared, forward_of, has_class, lists, take_row, keep_of}
 use Rattle.pg_terms.specs.Due.{same_kind, kind_is, forward_in}
-use Rattle.pg_shape.specs.CoreRules.{allows, is_dirty_writer}
+use Rattle.pg_shape.specs.CoreRules.{is_dirty_writer}
+use Rattle.pg_terms.specs.Rows.{allows, action_in}
 use Rattle.pg_shape.specs.DirRules.{has_no_owner}
-use Rattle.pg_shape.specs.Shaped.{action_in, HasPerms, HasLists, HasForwards}
+use Rattle.pg_shape.specs.Shaped.{HasPerms, HasLists, HasForwards}
 use Rattle.pg_shape.proofs.Bools.{and_both}
 use Rattle.pg_shape.proofs.Searches.{not_both, not_true, any_at, position_get, position_none, map_or_get}
 

@@ -15,7 +15,8 @@ use Rattle.pg_perm.specs.Drafts.{IsWellFormed}
 use Rattle.pg_terms.specs.declared.cases.DirCase.{DirCase}
 use Rattle.pg_terms.specs.declared.cases.DirCase.TheVariants as case
 use Rattle.pg_terms.specs.Terms.{is, is_write_owner, cache_is, shared, forward_of, has_class, lists, take_row, dir_row}
-use Rattle.pg_shape.specs.Shaped.{action_in, IsShaped}
+use Rattle.pg_shape.specs.Shaped.{IsShaped}
+use Rattle.pg_terms.specs.Rows.{action_in}
 use Rattle.pg_shape.proofs.Bools.{and_both}
 use Rattle.pg_shape.proofs.Searches.{not_both, not_true, or_left}
 use Rattle.pg_shape.proofs.Shaped.{is_one}

@@ -22,13 +22,13 @@ use Rattle.pg_terms.specs.declared.cases.DirCase.{DirCase}
 use Rattle.pg_terms.specs.declared.cases.DirCase.TheVariants as case
 use Rattle.pg_terms.specs.Terms.{is, is_owner, cache_is, out, shared, has_class, lists, core_row, take_row, dir_row}
 use Rattle.pg_terms.specs.Due.{kind_is}
-use Rattle.pg_shape.specs.CoreRules.{allows}
-use Rattle.pg_shape.specs.NextRules.{final_under, final_of, reply_to, final_by}
-use Rattle.pg_shape.specs.Shaped.{action_in, IsShaped}
+use Rattle.pg_terms.specs.Rows.{allows, final_under, reply_to, action_in, final}
+use Rattle.pg_shape.specs.NextRules.{final_of, final_by}
+use Rattle.pg_shape.specs.Shaped.{IsShaped}
 use Rattle.pg_shape.proofs.Shaped.{is_one}
 use Rattle.pg_standing.specs.Standings.{Standing, Request, is_among, with_owner, who, row_of, after_write, after_row, after}
 use Rattle.pg_standing.specs.Sound.{IsSound, IsLegal, IsLegalAs, fits_as, fits}
-use Rattle.pg_standing.specs.Requests.{action_of, IsReplyBy, IsReply, final}
+use Rattle.pg_standing.specs.Requests.{action_of, IsReplyBy, IsReply}
 use Rattle.pg_standing.proofs.Members.{same_self, joined, holds, owner_fits, sharer_fits}
 use Rattle.pg_standing.proofs.Facts.{shared_not_owned, mixed_not_owned, keep_no_share, drop_no_share, action_forwards, reply_forwards_nothing, shared_allows_load, owner_allows_load, writer_allows_store, owner_reads, lists_some_owner}
 use Rattle.pg_standing.proofs.Afters.{after_is, by_share, by_nothing, shared_with, joined_by, owned_by, after_share_is, after_joined_is, after_owned_is}

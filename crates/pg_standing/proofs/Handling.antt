@@ -20,7 +20,8 @@ use Rattle.pg_perm.specs.declared.draft.Action.TheVariants as action
 use Rattle.pg_terms.specs.declared.cases.DirCase.TheVariants as case
 use Rattle.pg_terms.specs.Terms.{is, has_class, dir_row, is_case, forward_of, same_event}
 use Rattle.pg_terms.specs.Due.{kind_is, forward_in}
-use Rattle.pg_shape.specs.Shaped.{action_in, IsShaped}
+use Rattle.pg_shape.specs.Shaped.{IsShaped}
+use Rattle.pg_terms.specs.Rows.{action_in}
 use Rattle.pg_shape.proofs.Rows.{row_at, evict_form}
 use Rattle.pg_standing.specs.Standings.{Standing, Request, is_among, who, left_of, without, row_of}
 use Rattle.pg_standing.specs.Sends.{sent_by, sent}
@@ -153,7 +154,7 @@ store_counts_not d n s r Sharer shape sound row other does = at (free_or_taken d
     at (inr taken) = absurd (cc ((shape.rows.write_sharer s.dir r row taken).1, does))
 
 -- a row for a load or a store does something
-ask_acts : (d : Draft) (f : RowForm) (class : ReqClass) (w : Who) → is_case d f (case.Ask class w) ≡ true → (a : Action) × (action_in f ≡ Some a)
+pub ask_acts : (d : Draft) (f : RowForm) (class : ReqClass) (w : Who) → is_case d f (case.Ask class w) ≡ true → (a : Action) × (action_in f ≡ Some a)
 ask_acts d (form.Ask request who does) class w h = (does, refl)
 ask_acts d (form.Evict who left) class w h = absurd cc
 

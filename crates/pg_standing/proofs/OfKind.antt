@@ -24,10 +24,11 @@ use Rattle.pg_perm.specs.Drafts.{IsWellFormed}
 use Rattle.pg_terms.specs.declared.cases.DirCase.TheVariants as case
 use Rattle.pg_terms.specs.Terms.{is, is_forward_of, forward_of, has_class, lists, keep_of, dir_row}
 use Rattle.pg_terms.specs.Due.{kind_is, forward_in}
-use Rattle.pg_shape.specs.Shaped.{IsShaped, action_in}
+use Rattle.pg_shape.specs.Shaped.{IsShaped}
+use Rattle.pg_terms.specs.Rows.{action_in, is_by_share}
 use Rattle.pg_shape.proofs.Rows.{row_at, evict_form}
 use Rattle.pg_shape.proofs.Shaped.{is_one}
-use Rattle.pg_standing.specs.Standings.{Standing, Request, is_among, with_core, without, left_of, who, case_for, row_of, after_share, is_by_share, after_read, after_row, after}
+use Rattle.pg_standing.specs.Standings.{Standing, Request, is_among, with_core, without, left_of, who, case_for, row_of, after_share, after_read, after_row, after}
 use Rattle.pg_standing.specs.Sends.{sent_by, sent}
 use Rattle.pg_standing.specs.Sound.{IsSound, IsLegal}
 use Rattle.pg_standing.specs.Kinds.{Kind, Stale, Read_shared, Read_owned, Read_share, Read_keep, Read_drop, Write_reply, Write_drop, Write_count, Evict_owner, Evict_sharer, to_holder, HasOwner, IsOfKind}

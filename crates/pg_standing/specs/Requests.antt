@@ -12,9 +12,7 @@ use Rattle.pg_perm.specs.declared.draft.ReplyName.TheVariants as reply
 use Rattle.pg_perm.specs.declared.draft.Action.{Action}
 use Rattle.pg_perm.specs.declared.draft.Action.TheVariants as action
 use Rattle.pg_terms.specs.Terms.{is_write_owner, cache_is, core_row, take_row, lists}
-use Rattle.pg_shape.specs.CoreRules.{allows}
-use Rattle.pg_shape.specs.NextRules.{final_under, reply_to}
-use Rattle.pg_shape.specs.Shaped.{action_in}
+use Rattle.pg_terms.specs.Rows.{allows, final_under, reply_to, action_in, final}
 use Rattle.pg_standing.specs.Standings.{Standing, Request, who, row_of, after}
 use Rattle.pg_standing.specs.Sends.{sent}
 use Rattle.pg_standing.specs.Sound.{IsSound, fits}
@@ -33,10 +31,6 @@ IsReplyBy d dir (Some action.Count) name = name ≡ reply.AckCount
 
 abbrev pub IsReply : Draft → Standing → Request → ReplyName → Type 0
 IsReply d s q name = IsReplyBy d s.dir (action_of d s q) name
-
--- the state in which a core ends that asked in this state and gets this reply
-abbrev pub final : Draft → ℕ → Event → ReplyName → Option ℕ
-final d x event name = option_and_then (λ c. final_under name c.form) (core_row d x event)
 
 -- what is so of a request
 pub record IsHandled (d : Draft) (n : ℕ) (s : Standing) (q : Request) : Type 0 where

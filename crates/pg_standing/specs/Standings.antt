@@ -16,8 +16,9 @@ use Rattle.pg_perm.specs.declared.draft.Draft.{Draft}
 use Rattle.pg_perm.specs.declared.draft.RowLine.{RowLine}
 use Rattle.pg_terms.specs.declared.cases.DirCase.{DirCase}
 use Rattle.pg_terms.specs.declared.cases.DirCase.TheVariants as case
-use Rattle.pg_terms.specs.Terms.{is, has_class, dir_row}
-use Rattle.pg_terms.specs.Due.{same_kind, kind_is, forward_in}
+use Rattle.pg_terms.specs.Terms.{is, dir_row}
+use Rattle.pg_terms.specs.Due.{same_kind, kind_is}
+use Rattle.pg_terms.specs.Rows.{is_by_share}
 
 -- the directory's state, the owner or none, and the sharers in ascending order
 pub record Standing : Type 0 where
@@ -80,10 +81,6 @@ row_of d s q = dir_row d s.dir (case_of s q)
 -- a share makes the owner a sharer
 abbrev pub after_share : Standing → Standing
 after_share s = record s { owner = None; sharers = with_owner s.owner s.sharers }
-
--- the row passes the request on by a share
-abbrev pub is_by_share : Draft → RowLine → Bool
-is_by_share d r = option_map_or (has_class Share d) (forward_in r.form) false
 
 -- who reads is the owner where the next state is owned, and else a sharer
 abbrev pub after_read : Draft → RowLine → ℕ → Standing → Standing
