@@ -13,9 +13,7 @@ use Rattle.pg_perm.specs.declared.draft.CoreForm.TheVariants as form
 use Rattle.pg_perm.specs.declared.draft.ReplyName.TheVariants as reply
 use Rattle.pg_terms.specs.Terms.{is, cache_is, out, shared, request_of, has_class, core_row, take_row, keep_of}
 use Rattle.pg_terms.specs.Due.{is_due}
-use Rattle.pg_shape.specs.TakeRules.{may_keep}
-use Rattle.pg_shape.specs.CoreRules.{allows, store_next}
-use Rattle.pg_standing.specs.Requests.{final}
+use Rattle.pg_terms.specs.Rows.{may_keep, allows, store_next, final}
 use Rattle.pg_table.specs.declared.cache.Desc.{Desc}
 use Rattle.pg_table.specs.declared.cache.Desc.TheVariants.{Stable, Ask, Leave}
 use Rattle.pg_table.specs.declared.cache.Phase.{Phase}

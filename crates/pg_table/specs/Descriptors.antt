@@ -1,6 +1,6 @@
 -- Which states a cache controller has, in their order.
-use Rattle.std.specs.Prelude.{ℕ, zero, suc, ◌+◌, Bool, false, not, ◌&&◌, ◌||◌, List, [], ◌∷◌, ◌++◌, map, filter, length, Option, Some, None, is_some, unwrap_or, if◌then◌else◌}
-use Rattle.std.specs.List.{list_any, flat_map}
+use Rattle.std.specs.Prelude.{ℕ, Bool, false, not, ◌&&◌, ◌||◌, List, [], ◌∷◌, ◌++◌, map, filter, length, Option, Some, None, is_some, unwrap_or, if◌then◌else◌}
+use Rattle.std.specs.List.{list_any, flat_map, range_with_len}
 use Rattle.std.specs.Option.{option_map_or}
 use Rattle.pg_perm.specs.declared.kinds.Event.{Event}
 use Rattle.pg_perm.specs.declared.kinds.Event.TheVariants.{Load, Store}
@@ -12,7 +12,7 @@ use Rattle.pg_perm.specs.declared.draft.CoreForm.{CoreForm}
 use Rattle.pg_perm.specs.declared.draft.CoreForm.TheVariants as form
 use Rattle.pg_terms.specs.Terms.{is, is_owner, is_read_owner, cache_is, out, shared, forward_of, core_row, keep_of}
 use Rattle.pg_terms.specs.Due.{is_due}
-use Rattle.pg_shape.specs.TakeRules.{may_keep}
+use Rattle.pg_terms.specs.Rows.{may_keep}
 use Rattle.pg_table.specs.declared.cache.Desc.{Desc}
 use Rattle.pg_table.specs.declared.cache.Desc.TheVariants.{Stable, Ask, Leave}
 use Rattle.pg_table.specs.declared.cache.Phase.{Phase}
@@ -61,14 +61,9 @@ tags d mode.Defer s event = filter (is_tag_of d s event) (Plain ∷ Kept ∷ Gav
 abbrev pub store_phase : Draft → ℕ → Phase
 store_phase d s = if cache_is (λ c. is_owner c.role) d s then Ac else Ad
 
--- k numbers, of which the first is n
-abbrev pub numbers : ℕ → ℕ → List ℕ
-numbers n zero = []
-numbers n (suc k) = n ∷ numbers (n + 1) k
-
 -- the states of the caches, as they are declared
 abbrev pub states : Draft → List ℕ
-states d = numbers 0 (length d.caches)
+states d = range_with_len 0 (length d.caches)
 
 -- the states in which a store asks: out, shared, and the owners that may only read
 abbrev pub starts : Draft → List ℕ

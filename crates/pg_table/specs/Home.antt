@@ -1,6 +1,6 @@
 -- The states and the rows of the generated directory controller.
 use Rattle.std.specs.Prelude.{ℕ, ◌==◌, ◌&&◌, ◌||◌, Bool, List, [], ◌∷◌, ◌++◌, map, filter, length, Option, Some, None, if◌then◌else◌}
-use Rattle.std.specs.List.{list_any, flat_map}
+use Rattle.std.specs.List.{list_any, flat_map, range_with_len}
 use Rattle.std.specs.Option.{option_and_then}
 use Rattle.pg_perm.specs.declared.kinds.DirKind.TheVariants as kind
 use Rattle.pg_perm.specs.declared.kinds.Who.{Who}
@@ -16,15 +16,13 @@ use Rattle.pg_terms.specs.declared.cases.DirCase.{DirCase}
 use Rattle.pg_terms.specs.declared.cases.DirCase.TheVariants as case
 use Rattle.pg_terms.specs.Terms.{dir_row}
 use Rattle.pg_terms.specs.Due.{kind_is, is_due_case}
-use Rattle.pg_shape.specs.Shaped.{action_in}
-use Rattle.pg_standing.specs.Standings.{is_by_share}
+use Rattle.pg_terms.specs.Rows.{action_in, is_by_share}
 use Rattle.pg_table.specs.declared.home.DirDesc.{DirDesc}
 use Rattle.pg_table.specs.declared.home.DirDesc.TheVariants.{State, Busy}
 use Rattle.pg_table.specs.declared.home.DirInput.{DirInput}
 use Rattle.pg_table.specs.declared.home.DirInput.TheVariants as at
 use Rattle.pg_table.specs.declared.home.DirAct.{DirAct}
 use Rattle.pg_table.specs.declared.home.DirAct.TheVariants as act
-use Rattle.pg_table.specs.Descriptors.{numbers}
 
 -- a row that passes a request on by a share leads to this state
 abbrev pub is_after_share : Draft → ℕ → Bool
@@ -32,7 +30,7 @@ is_after_share d n = list_any (λ r. is_by_share d r && r.next == n) d.rows
 
 -- the states of the directory controller: those that are declared, and one that waits for data before each that a share leads to
 abbrev pub home_descs : Draft → List DirDesc
-home_descs d = map (λ n. State n) (numbers 0 (length d.dirs)) ++ map (λ n. Busy n) (filter (is_after_share d) (numbers 0 (length d.dirs)))
+home_descs d = map (λ n. State n) (range_with_len 0 (length d.dirs)) ++ map (λ n. Busy n) (filter (is_after_share d) (range_with_len 0 (length d.dirs)))
 
 -- the inputs of the directory controller, in their order
 abbrev pub home_inputs : List DirInput

@@ -4,3 +4,8 @@ pub mod Generated
 pub mod Home
 pub mod Worked
 pub mod Tables
+pub mod Sound
+pub mod Stalls
+pub mod Mixed
+pub mod DueInputs
+pub mod Pick

@@ -1,4 +1,4 @@
--- MI, MSI, MESI and MOSI, as drafts.
+-- MI, MSI, MESI, MOSI and MOESI, as drafts.
 use Rattle.std.specs.Prelude.{true, false, [], ◌∷◌, codes, Some, None}
 use Rattle.pg_perm.specs.declared.kinds.Role.TheVariants as role
 use Rattle.pg_perm.specs.declared.kinds.Perm.TheVariants as perm
@@ -210,4 +210,75 @@ mosi = record {
       record { line = 50; dir = 3; form = row.Ask 0 who.Other (action.Forward 6); next = 2 } ∷
       record { line = 51; dir = 3; form = row.Ask 1 who.Other (action.Forward 7); next = 3 } ∷
       record { line = 52; dir = 3; form = row.Evict who.Owner left.Last; next = 0 } ∷ [];
+}
+
+abbrev pub moesi : Draft
+moesi = record {
+  line = 1;
+  name = codes "MOESI";
+  caches =
+      record { line = 2; name = codes "I"; role = role.Out; perm = perm.None; clean = false } ∷
+      record { line = 3; name = codes "S"; role = role.Shared; perm = perm.Read; clean = false } ∷
+      record { line = 4; name = codes "O"; role = role.Owner; perm = perm.Read; clean = false } ∷
+      record { line = 5; name = codes "E"; role = role.Owner; perm = perm.Write; clean = true } ∷
+      record { line = 6; name = codes "M"; role = role.Owner; perm = perm.Write; clean = false } ∷ [];
+  dirs =
+      record { line = 7; name = codes "I"; kind = kind.Idle; beside = [] } ∷
+      record { line = 8; name = codes "S"; kind = kind.Shared; beside = [] } ∷
+      record { line = 9; name = codes "O"; kind = kind.Mixed; beside = 2 ∷ [] } ∷
+      record { line = 10; name = codes "M"; kind = kind.Owned; beside = 3 ∷ 4 ∷ [] } ∷ [];
+  messages =
+      record { line = 11; name = codes "GetS"; class = Request asks.Read } ∷
+      record { line = 12; name = codes "GetM"; class = Request asks.Write } ∷
+      record { line = 13; name = codes "PutS"; class = Request asks.Clean } ∷
+      record { line = 14; name = codes "PutE"; class = Request asks.Clean } ∷
+      record { line = 15; name = codes "PutM"; class = Request asks.Dirty } ∷
+      record { line = 16; name = codes "PutO"; class = Request asks.Dirty } ∷
+      record { line = 17; name = codes "Inv"; class = Forward class.Inv } ∷
+      record { line = 18; name = codes "FwdGetS"; class = Forward class.Keep } ∷
+      record { line = 19; name = codes "FwdGetM"; class = Forward class.Drop } ∷
+      record { line = 20; name = codes "Data"; class = Reply } ∷
+      record { line = 21; name = codes "DataE"; class = Reply } ∷ [];
+  cores =
+      record { line = 22; state = 0; event = Load; form = Ask 0 (record { reply = names.Reply 9; fin = 1 } ∷ record { reply = names.Reply 10; fin = 3 } ∷ []) } ∷
+      record { line = 23; state = 0; event = Store; form = Ask 1 (record { reply = names.Reply 9; fin = 4 } ∷ []) } ∷
+      record { line = 24; state = 1; event = Load; form = Hit None } ∷
+      record { line = 25; state = 1; event = Store; form = Ask 1 (record { reply = names.Reply 9; fin = 4 } ∷ []) } ∷
+      record { line = 26; state = 1; event = Evict; form = Leave 2 } ∷
+      record { line = 27; state = 2; event = Load; form = Hit None } ∷
+      record { line = 28; state = 2; event = Store; form = Ask 1 (record { reply = names.AckCount; fin = 4 } ∷ []) } ∷
+      record { line = 29; state = 2; event = Evict; form = Leave 5 } ∷
+      record { line = 30; state = 3; event = Load; form = Hit None } ∷
+      record { line = 31; state = 3; event = Store; form = Hit (Some 4) } ∷
+      record { line = 32; state = 3; event = Evict; form = Leave 3 } ∷
+      record { line = 33; state = 4; event = Load; form = Hit None } ∷
+      record { line = 34; state = 4; event = Store; form = Hit None } ∷
+      record { line = 35; state = 4; event = Evict; form = Leave 4 } ∷ [];
+  takes =
+      record { line = 36; state = 1; forward = 6; reply = None; next = 0 } ∷
+      record { line = 37; state = 2; forward = 7; reply = Some 9; next = 2 } ∷
+      record { line = 38; state = 2; forward = 8; reply = Some 9; next = 0 } ∷
+      record { line = 39; state = 3; forward = 7; reply = Some 9; next = 2 } ∷
+      record { line = 40; state = 3; forward = 8; reply = Some 9; next = 0 } ∷
+      record { line = 41; state = 4; forward = 7; reply = Some 9; next = 2 } ∷
+      record { line = 42; state = 4; forward = 8; reply = Some 9; next = 0 } ∷ [];
+  rows =
+      record { line = 43; dir = 0; form = row.Ask 0 who.Other (action.Reply 10); next = 3 } ∷
+      record { line = 44; dir = 0; form = row.Ask 1 who.Other (action.Reply 9); next = 3 } ∷
+      record { line = 45; dir = 1; form = row.Ask 0 who.Other (action.Reply 9); next = 1 } ∷
+      record { line = 46; dir = 1; form = row.Ask 1 who.Other (action.Reply 9); next = 3 } ∷
+      record { line = 47; dir = 1; form = row.Ask 1 who.Sharer (action.Reply 9); next = 3 } ∷
+      record { line = 48; dir = 1; form = row.Evict who.Sharer left.Last; next = 0 } ∷
+      record { line = 49; dir = 1; form = row.Evict who.Sharer left.More; next = 1 } ∷
+      record { line = 50; dir = 2; form = row.Ask 0 who.Other (action.Forward 7); next = 2 } ∷
+      record { line = 51; dir = 2; form = row.Ask 1 who.Other (action.Forward 8); next = 3 } ∷
+      record { line = 52; dir = 2; form = row.Ask 1 who.Sharer (action.Forward 8); next = 3 } ∷
+      record { line = 53; dir = 2; form = row.Ask 1 who.Owner action.Count; next = 3 } ∷
+      record { line = 54; dir = 2; form = row.Evict who.Owner left.Last; next = 0 } ∷
+      record { line = 55; dir = 2; form = row.Evict who.Owner left.More; next = 1 } ∷
+      record { line = 56; dir = 2; form = row.Evict who.Sharer left.Last; next = 2 } ∷
+      record { line = 57; dir = 2; form = row.Evict who.Sharer left.More; next = 2 } ∷
+      record { line = 58; dir = 3; form = row.Ask 0 who.Other (action.Forward 7); next = 2 } ∷
+      record { line = 59; dir = 3; form = row.Ask 1 who.Other (action.Forward 8); next = 3 } ∷
+      record { line = 60; dir = 3; form = row.Evict who.Owner left.Last; next = 0 } ∷ [];
 }

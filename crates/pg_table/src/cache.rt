@@ -5,7 +5,7 @@ use pg_perm::{Event, Sequence};
 pub enum Desc {
     /// No operation is outstanding.
     Stable(u8),
-    /// A load or a store that began in the state `start` waits for its answer.
+    /// A load or a store waits for its answer; it began in the state `start`, or forwards that came before it have led it there since.
     Ask {
         event: Event,
         start: u8,
@@ -55,7 +55,7 @@ pub enum Input {
     /// Data with a count that equals the acknowledgements got so far, and data with one that doesn't.
     DataAll(u8),
     DataPart(u8),
-    /// An acknowledgement with which those needed aren't all there, and one with which they are.
+    /// An acknowledgement with which those that are known to be needed are all there, and, first, any other.
     AckMore,
     AckLast,
 }

@@ -1,89 +1,107 @@
-//! Laws of the definitions of this crate.
+//! Laws on the tables of cache controllers.
 
-ghost use Rattle.std.specs.Prelude.{◌≡◌, [], ◌∷◌, length};
-ghost use Rattle.pg_perm.specs.declared.kinds.Event.TheVariants as event;
+ghost use Rattle.std.specs.Prelude.{ℕ, ◌≡◌, ◌↔◌, ◌⊎◌, true, false, List, [], ◌∷◌, map, slice_get, Some, None, if◌then◌else◌};
+ghost use Rattle.std.specs.List.{list_any, IsDistinct};
+ghost use Rattle.pg_perm.specs.declared.kinds.Event.{Event};
+ghost use Rattle.pg_perm.specs.declared.kinds.FwdClass.TheVariants as class;
+ghost use Rattle.pg_perm.specs.declared.kinds.Mode.{Mode};
 ghost use Rattle.pg_perm.specs.declared.kinds.Mode.TheVariants as mode;
-ghost use Rattle.pg_table.specs.declared.cache.Desc.TheVariants as desc;
-ghost use Rattle.pg_table.specs.declared.cache.Phase.TheVariants as phase;
-ghost use Rattle.pg_table.specs.declared.cache.Tag.TheVariants as tag;
+ghost use Rattle.pg_perm.specs.declared.draft.Draft.{Draft};
+ghost use Rattle.pg_perm.specs.Drafts.{IsWellFormed};
+ghost use Rattle.pg_terms.specs.Terms.{has_class};
+ghost use Rattle.pg_shape.specs.Shaped.{IsShaped};
+ghost use Rattle.pg_table.specs.declared.cache.Desc.{Desc};
+ghost use Rattle.pg_table.specs.declared.cache.Desc.TheVariants.{Ask};
+ghost use Rattle.pg_table.specs.declared.cache.Phase.{Phase};
+ghost use Rattle.pg_table.specs.declared.cache.Tag.{Tag};
+ghost use Rattle.pg_table.specs.declared.cache.Input.{Input};
 ghost use Rattle.pg_table.specs.declared.cache.Input.TheVariants as at;
 ghost use Rattle.pg_table.specs.declared.cache.Act.TheVariants as act;
+ghost use Rattle.pg_table.specs.declared.cache.Row.{Row};
+ghost use Rattle.pg_table.specs.declared.table.TableState.{TableState};
 ghost use Rattle.pg_table.specs.Descriptors.{descs};
-ghost use Rattle.pg_table.specs.Generated.{generated};
-ghost use Rattle.pg_table.specs.declared.home.DirDesc.TheVariants as dir;
-ghost use Rattle.pg_table.specs.declared.home.DirInput.TheVariants as met;
-ghost use Rattle.pg_table.specs.declared.home.DirAct.TheVariants as does;
-ghost use Rattle.pg_perm.specs.declared.kinds.ReqClass.TheVariants as asks;
-ghost use Rattle.pg_perm.specs.declared.kinds.Who.TheVariants as who;
-ghost use Rattle.pg_perm.specs.declared.kinds.Left.TheVariants as left;
-ghost use Rattle.pg_table.specs.Home.{home_generated};
-ghost use Rattle.pg_table.specs.Worked.{mi, msi, mesi, mosi};
+ghost use Rattle.pg_table.specs.Choices.{Choice, tag_by, choices};
+ghost use Rattle.pg_table.specs.Generated.{inputs, chosen, row_for, rows_of, generated};
+ghost use Rattle.pg_table.specs.Mixed.{mixed_table, IsMix};
+ghost use Rattle.pg_table.specs.Stalls.{comes_behind, is_stall};
+ghost use Rattle.pg_table.specs.Tables.{same_desc, number_of, same_input, find_row, table_row, cache_table, home_table};
+ghost use Rattle.pg_table.specs.Sound.{is_among, rows_for, Follows, IsSoundCache, IsSound};
 
-/// The states of cache controllers, as a person counts them: of MSI, MESI and MOSI.
-pub fn worked_states()
-    ensures stalling { descs msi mode.Stall ≡ desc.Stable 0 ∷ desc.Stable 1 ∷ desc.Stable 2 ∷ desc.Ask event.Load 0 phase.D tag.Plain
-        ∷ desc.Ask event.Store 0 phase.Ad tag.Plain ∷ desc.Ask event.Store 0 phase.A tag.Plain ∷ desc.Ask event.Store 1 phase.Ad tag.Plain
-        ∷ desc.Ask event.Store 1 phase.A tag.Plain ∷ desc.Leave 1 ∷ desc.Leave 2 ∷ desc.Leave 0 ∷ [] }
-    ensures deferring { length (descs msi mode.Defer) ≡ 20 }
-    ensures mesi { length (descs mesi mode.Stall) ≡ 13 }
-    ensures mosi { length (descs mosi mode.Stall) ≡ 15 }
+/// Two states are the same just where they are equal, and a state that is among others stands at its number.
+pub fn states_have_numbers()
+    ensures same { (a b : Desc) → same_desc a b ≡ true → a ≡ b }
+    ensures itself { (a : Desc) → same_desc a a ≡ true }
+    ensures number { (xs : List Desc) (s : Desc) → is_among xs s ≡ true → slice_get xs (number_of xs s) ≡ Some s }
 {}
 
-/// Whole tables, as a person works them out: of MSI those of its caches, stalling and deferring, and that of the directory; of MI those of
-/// its caches.
-pub fn worked_tables()
-    ensures stall { generated msi mode.Stall ≡
-        record { desc = desc.Stable 0; rows = record { input = at.Core event.Load; choice = record { acts = act.Send 0 ∷ []; next = desc.Ask event.Load 0 phase.D tag.Plain } } ∷ record { input = at.Core event.Store; choice = record { acts = act.Send 1 ∷ []; next = desc.Ask event.Store 0 phase.Ad tag.Plain } } ∷ record { input = at.Core event.Evict; choice = record { acts = act.Skip ∷ []; next = desc.Stable 0 } } ∷ [] } ∷
-        record { desc = desc.Stable 1; rows = record { input = at.Core event.Load; choice = record { acts = act.Hit ∷ []; next = desc.Stable 1 } } ∷ record { input = at.Core event.Store; choice = record { acts = act.Send 1 ∷ []; next = desc.Ask event.Store 1 phase.Ad tag.Plain } } ∷ record { input = at.Core event.Evict; choice = record { acts = act.Send 2 ∷ []; next = desc.Leave 1 } } ∷ record { input = at.Forward 4; choice = record { acts = act.Ack ∷ []; next = desc.Stable 0 } } ∷ [] } ∷
-        record { desc = desc.Stable 2; rows = record { input = at.Core event.Load; choice = record { acts = act.Hit ∷ []; next = desc.Stable 2 } } ∷ record { input = at.Core event.Store; choice = record { acts = act.Hit ∷ []; next = desc.Stable 2 } } ∷ record { input = at.Core event.Evict; choice = record { acts = act.Send 3 ∷ []; next = desc.Leave 2 } } ∷ record { input = at.Forward 5; choice = record { acts = act.Give 7 ∷ act.Wb ∷ []; next = desc.Stable 1 } } ∷ record { input = at.Forward 6; choice = record { acts = act.Give 7 ∷ []; next = desc.Stable 0 } } ∷ [] } ∷
-        record { desc = desc.Ask event.Load 0 phase.D tag.Plain; rows = record { input = at.Forward 4; choice = record { acts = act.Stall ∷ []; next = desc.Ask event.Load 0 phase.D tag.Plain } } ∷ record { input = at.DataAll 7; choice = record { acts = act.Fill ∷ act.Done ∷ []; next = desc.Stable 1 } } ∷ [] } ∷
-        record { desc = desc.Ask event.Store 0 phase.Ad tag.Plain; rows = record { input = at.Forward 5; choice = record { acts = act.Stall ∷ []; next = desc.Ask event.Store 0 phase.Ad tag.Plain } } ∷ record { input = at.Forward 6; choice = record { acts = act.Stall ∷ []; next = desc.Ask event.Store 0 phase.Ad tag.Plain } } ∷ record { input = at.DataAll 7; choice = record { acts = act.Fill ∷ act.Done ∷ []; next = desc.Stable 2 } } ∷ record { input = at.DataPart 7; choice = record { acts = act.Fill ∷ act.Need ∷ []; next = desc.Ask event.Store 0 phase.A tag.Plain } } ∷ record { input = at.AckMore; choice = record { acts = act.Count ∷ []; next = desc.Ask event.Store 0 phase.Ad tag.Plain } } ∷ [] } ∷
-        record { desc = desc.Ask event.Store 0 phase.A tag.Plain; rows = record { input = at.Forward 5; choice = record { acts = act.Stall ∷ []; next = desc.Ask event.Store 0 phase.A tag.Plain } } ∷ record { input = at.Forward 6; choice = record { acts = act.Stall ∷ []; next = desc.Ask event.Store 0 phase.A tag.Plain } } ∷ record { input = at.AckMore; choice = record { acts = act.Count ∷ []; next = desc.Ask event.Store 0 phase.A tag.Plain } } ∷ record { input = at.AckLast; choice = record { acts = act.Count ∷ act.Done ∷ []; next = desc.Stable 2 } } ∷ [] } ∷
-        record { desc = desc.Ask event.Store 1 phase.Ad tag.Plain; rows = record { input = at.Forward 4; choice = record { acts = act.Ack ∷ []; next = desc.Ask event.Store 0 phase.Ad tag.Plain } } ∷ record { input = at.Forward 5; choice = record { acts = act.Stall ∷ []; next = desc.Ask event.Store 1 phase.Ad tag.Plain } } ∷ record { input = at.Forward 6; choice = record { acts = act.Stall ∷ []; next = desc.Ask event.Store 1 phase.Ad tag.Plain } } ∷ record { input = at.DataAll 7; choice = record { acts = act.Fill ∷ act.Done ∷ []; next = desc.Stable 2 } } ∷ record { input = at.DataPart 7; choice = record { acts = act.Fill ∷ act.Need ∷ []; next = desc.Ask event.Store 1 phase.A tag.Plain } } ∷ record { input = at.AckMore; choice = record { acts = act.Count ∷ []; next = desc.Ask event.Store 1 phase.Ad tag.Plain } } ∷ [] } ∷
-        record { desc = desc.Ask event.Store 1 phase.A tag.Plain; rows = record { input = at.Forward 5; choice = record { acts = act.Stall ∷ []; next = desc.Ask event.Store 1 phase.A tag.Plain } } ∷ record { input = at.Forward 6; choice = record { acts = act.Stall ∷ []; next = desc.Ask event.Store 1 phase.A tag.Plain } } ∷ record { input = at.AckMore; choice = record { acts = act.Count ∷ []; next = desc.Ask event.Store 1 phase.A tag.Plain } } ∷ record { input = at.AckLast; choice = record { acts = act.Count ∷ act.Done ∷ []; next = desc.Stable 2 } } ∷ [] } ∷
-        record { desc = desc.Leave 1; rows = record { input = at.Forward 4; choice = record { acts = act.Ack ∷ []; next = desc.Leave 0 } } ∷ record { input = at.PutAck; choice = record { acts = act.Done ∷ []; next = desc.Stable 0 } } ∷ [] } ∷
-        record { desc = desc.Leave 2; rows = record { input = at.Forward 5; choice = record { acts = act.Give 7 ∷ act.Wb ∷ []; next = desc.Leave 1 } } ∷ record { input = at.Forward 6; choice = record { acts = act.Give 7 ∷ []; next = desc.Leave 0 } } ∷ record { input = at.PutAck; choice = record { acts = act.Done ∷ []; next = desc.Stable 0 } } ∷ [] } ∷
-        record { desc = desc.Leave 0; rows = record { input = at.PutAck; choice = record { acts = act.Done ∷ []; next = desc.Stable 0 } } ∷ [] } ∷ [] }
-    ensures defer { generated msi mode.Defer ≡
-        record { desc = desc.Stable 0; rows = record { input = at.Core event.Load; choice = record { acts = act.Send 0 ∷ []; next = desc.Ask event.Load 0 phase.D tag.Plain } } ∷ record { input = at.Core event.Store; choice = record { acts = act.Send 1 ∷ []; next = desc.Ask event.Store 0 phase.Ad tag.Plain } } ∷ record { input = at.Core event.Evict; choice = record { acts = act.Skip ∷ []; next = desc.Stable 0 } } ∷ [] } ∷
-        record { desc = desc.Stable 1; rows = record { input = at.Core event.Load; choice = record { acts = act.Hit ∷ []; next = desc.Stable 1 } } ∷ record { input = at.Core event.Store; choice = record { acts = act.Send 1 ∷ []; next = desc.Ask event.Store 1 phase.Ad tag.Plain } } ∷ record { input = at.Core event.Evict; choice = record { acts = act.Send 2 ∷ []; next = desc.Leave 1 } } ∷ record { input = at.Forward 4; choice = record { acts = act.Ack ∷ []; next = desc.Stable 0 } } ∷ [] } ∷
-        record { desc = desc.Stable 2; rows = record { input = at.Core event.Load; choice = record { acts = act.Hit ∷ []; next = desc.Stable 2 } } ∷ record { input = at.Core event.Store; choice = record { acts = act.Hit ∷ []; next = desc.Stable 2 } } ∷ record { input = at.Core event.Evict; choice = record { acts = act.Send 3 ∷ []; next = desc.Leave 2 } } ∷ record { input = at.Forward 5; choice = record { acts = act.Give 7 ∷ act.Wb ∷ []; next = desc.Stable 1 } } ∷ record { input = at.Forward 6; choice = record { acts = act.Give 7 ∷ []; next = desc.Stable 0 } } ∷ [] } ∷
-        record { desc = desc.Ask event.Load 0 phase.D tag.Plain; rows = record { input = at.Forward 4; choice = record { acts = act.Ack ∷ []; next = desc.Ask event.Load 0 phase.D tag.Gone } } ∷ record { input = at.DataAll 7; choice = record { acts = act.Fill ∷ act.Done ∷ []; next = desc.Stable 1 } } ∷ [] } ∷
-        record { desc = desc.Ask event.Load 0 phase.D tag.Gone; rows = record { input = at.DataAll 7; choice = record { acts = act.Fill ∷ act.Done ∷ act.Serve ∷ []; next = desc.Stable 0 } } ∷ [] } ∷
-        record { desc = desc.Ask event.Store 0 phase.Ad tag.Plain; rows = record { input = at.Forward 5; choice = record { acts = act.Defer ∷ []; next = desc.Ask event.Store 0 phase.Ad tag.Gave } } ∷ record { input = at.Forward 6; choice = record { acts = act.Defer ∷ []; next = desc.Ask event.Store 0 phase.Ad tag.Gone } } ∷ record { input = at.DataAll 7; choice = record { acts = act.Fill ∷ act.Done ∷ []; next = desc.Stable 2 } } ∷ record { input = at.DataPart 7; choice = record { acts = act.Fill ∷ act.Need ∷ []; next = desc.Ask event.Store 0 phase.A tag.Plain } } ∷ record { input = at.AckMore; choice = record { acts = act.Count ∷ []; next = desc.Ask event.Store 0 phase.Ad tag.Plain } } ∷ [] } ∷
-        record { desc = desc.Ask event.Store 0 phase.Ad tag.Gave; rows = record { input = at.DataAll 7; choice = record { acts = act.Fill ∷ act.Done ∷ act.Serve ∷ []; next = desc.Stable 1 } } ∷ record { input = at.DataPart 7; choice = record { acts = act.Fill ∷ act.Need ∷ []; next = desc.Ask event.Store 0 phase.A tag.Gave } } ∷ record { input = at.AckMore; choice = record { acts = act.Count ∷ []; next = desc.Ask event.Store 0 phase.Ad tag.Gave } } ∷ [] } ∷
-        record { desc = desc.Ask event.Store 0 phase.Ad tag.Gone; rows = record { input = at.DataAll 7; choice = record { acts = act.Fill ∷ act.Done ∷ act.Serve ∷ []; next = desc.Stable 0 } } ∷ record { input = at.DataPart 7; choice = record { acts = act.Fill ∷ act.Need ∷ []; next = desc.Ask event.Store 0 phase.A tag.Gone } } ∷ record { input = at.AckMore; choice = record { acts = act.Count ∷ []; next = desc.Ask event.Store 0 phase.Ad tag.Gone } } ∷ [] } ∷
-        record { desc = desc.Ask event.Store 0 phase.A tag.Plain; rows = record { input = at.Forward 5; choice = record { acts = act.Defer ∷ []; next = desc.Ask event.Store 0 phase.A tag.Gave } } ∷ record { input = at.Forward 6; choice = record { acts = act.Defer ∷ []; next = desc.Ask event.Store 0 phase.A tag.Gone } } ∷ record { input = at.AckMore; choice = record { acts = act.Count ∷ []; next = desc.Ask event.Store 0 phase.A tag.Plain } } ∷ record { input = at.AckLast; choice = record { acts = act.Count ∷ act.Done ∷ []; next = desc.Stable 2 } } ∷ [] } ∷
-        record { desc = desc.Ask event.Store 0 phase.A tag.Gave; rows = record { input = at.AckMore; choice = record { acts = act.Count ∷ []; next = desc.Ask event.Store 0 phase.A tag.Gave } } ∷ record { input = at.AckLast; choice = record { acts = act.Count ∷ act.Done ∷ act.Serve ∷ []; next = desc.Stable 1 } } ∷ [] } ∷
-        record { desc = desc.Ask event.Store 0 phase.A tag.Gone; rows = record { input = at.AckMore; choice = record { acts = act.Count ∷ []; next = desc.Ask event.Store 0 phase.A tag.Gone } } ∷ record { input = at.AckLast; choice = record { acts = act.Count ∷ act.Done ∷ act.Serve ∷ []; next = desc.Stable 0 } } ∷ [] } ∷
-        record { desc = desc.Ask event.Store 1 phase.Ad tag.Plain; rows = record { input = at.Forward 4; choice = record { acts = act.Ack ∷ []; next = desc.Ask event.Store 0 phase.Ad tag.Plain } } ∷ record { input = at.Forward 5; choice = record { acts = act.Defer ∷ []; next = desc.Ask event.Store 1 phase.Ad tag.Gave } } ∷ record { input = at.Forward 6; choice = record { acts = act.Defer ∷ []; next = desc.Ask event.Store 1 phase.Ad tag.Gone } } ∷ record { input = at.DataAll 7; choice = record { acts = act.Fill ∷ act.Done ∷ []; next = desc.Stable 2 } } ∷ record { input = at.DataPart 7; choice = record { acts = act.Fill ∷ act.Need ∷ []; next = desc.Ask event.Store 1 phase.A tag.Plain } } ∷ record { input = at.AckMore; choice = record { acts = act.Count ∷ []; next = desc.Ask event.Store 1 phase.Ad tag.Plain } } ∷ [] } ∷
-        record { desc = desc.Ask event.Store 1 phase.Ad tag.Gave; rows = record { input = at.DataAll 7; choice = record { acts = act.Fill ∷ act.Done ∷ act.Serve ∷ []; next = desc.Stable 1 } } ∷ record { input = at.DataPart 7; choice = record { acts = act.Fill ∷ act.Need ∷ []; next = desc.Ask event.Store 1 phase.A tag.Gave } } ∷ record { input = at.AckMore; choice = record { acts = act.Count ∷ []; next = desc.Ask event.Store 1 phase.Ad tag.Gave } } ∷ [] } ∷
-        record { desc = desc.Ask event.Store 1 phase.Ad tag.Gone; rows = record { input = at.DataAll 7; choice = record { acts = act.Fill ∷ act.Done ∷ act.Serve ∷ []; next = desc.Stable 0 } } ∷ record { input = at.DataPart 7; choice = record { acts = act.Fill ∷ act.Need ∷ []; next = desc.Ask event.Store 1 phase.A tag.Gone } } ∷ record { input = at.AckMore; choice = record { acts = act.Count ∷ []; next = desc.Ask event.Store 1 phase.Ad tag.Gone } } ∷ [] } ∷
-        record { desc = desc.Ask event.Store 1 phase.A tag.Plain; rows = record { input = at.Forward 5; choice = record { acts = act.Defer ∷ []; next = desc.Ask event.Store 1 phase.A tag.Gave } } ∷ record { input = at.Forward 6; choice = record { acts = act.Defer ∷ []; next = desc.Ask event.Store 1 phase.A tag.Gone } } ∷ record { input = at.AckMore; choice = record { acts = act.Count ∷ []; next = desc.Ask event.Store 1 phase.A tag.Plain } } ∷ record { input = at.AckLast; choice = record { acts = act.Count ∷ act.Done ∷ []; next = desc.Stable 2 } } ∷ [] } ∷
-        record { desc = desc.Ask event.Store 1 phase.A tag.Gave; rows = record { input = at.AckMore; choice = record { acts = act.Count ∷ []; next = desc.Ask event.Store 1 phase.A tag.Gave } } ∷ record { input = at.AckLast; choice = record { acts = act.Count ∷ act.Done ∷ act.Serve ∷ []; next = desc.Stable 1 } } ∷ [] } ∷
-        record { desc = desc.Ask event.Store 1 phase.A tag.Gone; rows = record { input = at.AckMore; choice = record { acts = act.Count ∷ []; next = desc.Ask event.Store 1 phase.A tag.Gone } } ∷ record { input = at.AckLast; choice = record { acts = act.Count ∷ act.Done ∷ act.Serve ∷ []; next = desc.Stable 0 } } ∷ [] } ∷
-        record { desc = desc.Leave 1; rows = record { input = at.Forward 4; choice = record { acts = act.Ack ∷ []; next = desc.Leave 0 } } ∷ record { input = at.PutAck; choice = record { acts = act.Done ∷ []; next = desc.Stable 0 } } ∷ [] } ∷
-        record { desc = desc.Leave 2; rows = record { input = at.Forward 5; choice = record { acts = act.Give 7 ∷ act.Wb ∷ []; next = desc.Leave 1 } } ∷ record { input = at.Forward 6; choice = record { acts = act.Give 7 ∷ []; next = desc.Leave 0 } } ∷ record { input = at.PutAck; choice = record { acts = act.Done ∷ []; next = desc.Stable 0 } } ∷ [] } ∷
-        record { desc = desc.Leave 0; rows = record { input = at.PutAck; choice = record { acts = act.Done ∷ []; next = desc.Stable 0 } } ∷ [] } ∷ [] }
-    ensures home { home_generated msi ≡
-        record { desc = dir.State 0; rows = record { input = met.Ask asks.Read who.Other; choice = record { acts = does.Reply 7 ∷ []; next = dir.State 1 } } ∷ record { input = met.Ask asks.Write who.Other; choice = record { acts = does.Reply 7 ∷ []; next = dir.State 2 } } ∷ record { input = met.EvictNone; choice = record { acts = does.PutAck ∷ []; next = dir.State 0 } } ∷ [] } ∷
-        record { desc = dir.State 1; rows = record { input = met.Ask asks.Read who.Other; choice = record { acts = does.Reply 7 ∷ []; next = dir.State 1 } } ∷ record { input = met.Ask asks.Write who.Other; choice = record { acts = does.Inv ∷ does.Reply 7 ∷ []; next = dir.State 2 } } ∷ record { input = met.Ask asks.Write who.Sharer; choice = record { acts = does.Inv ∷ does.Reply 7 ∷ []; next = dir.State 2 } } ∷ record { input = met.Evict who.Sharer left.Last; choice = record { acts = does.PutAck ∷ []; next = dir.State 0 } } ∷ record { input = met.Evict who.Sharer left.More; choice = record { acts = does.PutAck ∷ []; next = dir.State 1 } } ∷ record { input = met.EvictNone; choice = record { acts = does.PutAck ∷ []; next = dir.State 1 } } ∷ [] } ∷
-        record { desc = dir.State 2; rows = record { input = met.Ask asks.Read who.Other; choice = record { acts = does.Forward 5 ∷ []; next = dir.Busy 1 } } ∷ record { input = met.Ask asks.Write who.Other; choice = record { acts = does.Forward 6 ∷ []; next = dir.State 2 } } ∷ record { input = met.Evict who.Owner left.Last; choice = record { acts = does.Write ∷ does.PutAck ∷ []; next = dir.State 0 } } ∷ record { input = met.EvictNone; choice = record { acts = does.PutAck ∷ []; next = dir.State 2 } } ∷ [] } ∷
-        record { desc = dir.Busy 1; rows = record { input = met.BusyAsk asks.Read; choice = record { acts = does.Stall ∷ []; next = dir.Busy 1 } } ∷ record { input = met.BusyAsk asks.Write; choice = record { acts = does.Stall ∷ []; next = dir.Busy 1 } } ∷ record { input = met.BusyEvict; choice = record { acts = does.Stall ∷ []; next = dir.Busy 1 } } ∷ record { input = met.Wb; choice = record { acts = does.Write ∷ []; next = dir.State 1 } } ∷ [] } ∷ [] }
-    ensures mi_stall { generated mi mode.Stall ≡
-        record { desc = desc.Stable 0; rows = record { input = at.Core event.Load; choice = record { acts = act.Send 0 ∷ []; next = desc.Ask event.Load 0 phase.D tag.Plain } } ∷ record { input = at.Core event.Store; choice = record { acts = act.Send 1 ∷ []; next = desc.Ask event.Store 0 phase.Ad tag.Plain } } ∷ record { input = at.Core event.Evict; choice = record { acts = act.Skip ∷ []; next = desc.Stable 0 } } ∷ [] } ∷
-        record { desc = desc.Stable 1; rows = record { input = at.Core event.Load; choice = record { acts = act.Hit ∷ []; next = desc.Stable 1 } } ∷ record { input = at.Core event.Store; choice = record { acts = act.Hit ∷ []; next = desc.Stable 1 } } ∷ record { input = at.Core event.Evict; choice = record { acts = act.Send 2 ∷ []; next = desc.Leave 1 } } ∷ record { input = at.Forward 3; choice = record { acts = act.Give 4 ∷ []; next = desc.Stable 0 } } ∷ [] } ∷
-        record { desc = desc.Ask event.Load 0 phase.D tag.Plain; rows = record { input = at.Forward 3; choice = record { acts = act.Stall ∷ []; next = desc.Ask event.Load 0 phase.D tag.Plain } } ∷ record { input = at.DataAll 4; choice = record { acts = act.Fill ∷ act.Done ∷ []; next = desc.Stable 1 } } ∷ [] } ∷
-        record { desc = desc.Ask event.Store 0 phase.Ad tag.Plain; rows = record { input = at.Forward 3; choice = record { acts = act.Stall ∷ []; next = desc.Ask event.Store 0 phase.Ad tag.Plain } } ∷ record { input = at.DataAll 4; choice = record { acts = act.Fill ∷ act.Done ∷ []; next = desc.Stable 1 } } ∷ [] } ∷
-        record { desc = desc.Leave 1; rows = record { input = at.Forward 3; choice = record { acts = act.Give 4 ∷ []; next = desc.Leave 0 } } ∷ record { input = at.PutAck; choice = record { acts = act.Done ∷ []; next = desc.Stable 0 } } ∷ [] } ∷
-        record { desc = desc.Leave 0; rows = record { input = at.PutAck; choice = record { acts = act.Done ∷ []; next = desc.Stable 0 } } ∷ [] } ∷ [] }
-    ensures mi_defer { generated mi mode.Defer ≡
-        record { desc = desc.Stable 0; rows = record { input = at.Core event.Load; choice = record { acts = act.Send 0 ∷ []; next = desc.Ask event.Load 0 phase.D tag.Plain } } ∷ record { input = at.Core event.Store; choice = record { acts = act.Send 1 ∷ []; next = desc.Ask event.Store 0 phase.Ad tag.Plain } } ∷ record { input = at.Core event.Evict; choice = record { acts = act.Skip ∷ []; next = desc.Stable 0 } } ∷ [] } ∷
-        record { desc = desc.Stable 1; rows = record { input = at.Core event.Load; choice = record { acts = act.Hit ∷ []; next = desc.Stable 1 } } ∷ record { input = at.Core event.Store; choice = record { acts = act.Hit ∷ []; next = desc.Stable 1 } } ∷ record { input = at.Core event.Evict; choice = record { acts = act.Send 2 ∷ []; next = desc.Leave 1 } } ∷ record { input = at.Forward 3; choice = record { acts = act.Give 4 ∷ []; next = desc.Stable 0 } } ∷ [] } ∷
-        record { desc = desc.Ask event.Load 0 phase.D tag.Plain; rows = record { input = at.Forward 3; choice = record { acts = act.Defer ∷ []; next = desc.Ask event.Load 0 phase.D tag.Gone } } ∷ record { input = at.DataAll 4; choice = record { acts = act.Fill ∷ act.Done ∷ []; next = desc.Stable 1 } } ∷ [] } ∷
-        record { desc = desc.Ask event.Load 0 phase.D tag.Gone; rows = record { input = at.DataAll 4; choice = record { acts = act.Fill ∷ act.Done ∷ act.Serve ∷ []; next = desc.Stable 0 } } ∷ [] } ∷
-        record { desc = desc.Ask event.Store 0 phase.Ad tag.Plain; rows = record { input = at.Forward 3; choice = record { acts = act.Defer ∷ []; next = desc.Ask event.Store 0 phase.Ad tag.Gone } } ∷ record { input = at.DataAll 4; choice = record { acts = act.Fill ∷ act.Done ∷ []; next = desc.Stable 1 } } ∷ [] } ∷
-        record { desc = desc.Ask event.Store 0 phase.Ad tag.Gone; rows = record { input = at.DataAll 4; choice = record { acts = act.Fill ∷ act.Done ∷ act.Serve ∷ []; next = desc.Stable 0 } } ∷ [] } ∷
-        record { desc = desc.Leave 1; rows = record { input = at.Forward 3; choice = record { acts = act.Give 4 ∷ []; next = desc.Leave 0 } } ∷ record { input = at.PutAck; choice = record { acts = act.Done ∷ []; next = desc.Stable 0 } } ∷ [] } ∷
-        record { desc = desc.Leave 0; rows = record { input = at.PutAck; choice = record { acts = act.Done ∷ []; next = desc.Stable 0 } } ∷ [] } ∷ [] }
+/// The states of a cache controller are told apart: none stands twice.
+pub fn states_are_told_apart()
+    ensures { (d : Draft) (m : Mode) → IsWellFormed d → IsShaped d → IsDistinct same_desc (descs d m) }
+{}
+
+/// Whichever forwards wait, a cache controller has the states that it has where all wait, and has no others than where all are put off.
+pub fn states_of_both_modes()
+    ensures needed { (d : Draft) (m : Mode) (s : Desc) → IsWellFormed d → IsShaped d → is_among (descs d mode.Stall) s ≡ true → is_among (descs d m) s ≡ true }
+    ensures known { (d : Draft) (m : Mode) (s : Desc) → IsWellFormed d → IsShaped d → is_among (descs d m) s ≡ true → is_among (descs d mode.Defer) s ≡ true }
+{}
+
+#[tactic(auto, using(crate::proofs::Onward::onward))]
+/// Each row that is generated for a state of a cache controller leads to one of its states.
+pub fn rows_lead_to_states()
+    ensures { (d : Draft) (m : Mode) (s : Desc) (i : Input) (c : Choice) → IsWellFormed d → IsShaped d → is_among (descs d m) s ≡ true
+        → chosen m (choices d s i) ≡ Some c → is_among (descs d m) c.next ≡ true }
+{}
+
+/// Each input that may come to a cache controller is among the inputs of the protocol, and the inputs are told apart.
+pub fn inputs_are_listed_once()
+    ensures listed { (d : Draft) (s : Desc) (i : Input) (c : Choice) (cs : List Choice) → IsWellFormed d → IsShaped d → choices d s i ≡ c ∷ cs
+        → list_any (λ j. same_input j i) (inputs d) ≡ true }
+    ensures apart { (d : Draft) → IsDistinct same_input (inputs d) }
+{}
+
+/// A generated state has for an input the row of the choice that was made, and no other; and each row is for one input.
+pub fn rows_are_for_one_input()
+    ensures chosen { (d : Draft) (m : Mode) (ss : List Desc) (s : Desc) (i : Input) → IsWellFormed d → IsShaped d
+        → rows_for i (map (table_row ss) (rows_of d m s)) ≡ map (table_row ss) (row_for i (chosen m (choices d s i))) }
+    ensures single { (d : Draft) (m : Mode) (ss : List Desc) (s : Desc) (k : ℕ) (r : Row) → slice_get (map (table_row ss) (rows_of d m s)) k ≡ Some r
+        → (i : Input) × (r.inputs ≡ i ∷ []) }
+{}
+
+/// The generated tables of a protocol are sound, in both modes.
+pub fn generated_tables_are_sound()
+    ensures { (d : Draft) (m : Mode) → IsWellFormed d → IsShaped d → IsSound d (cache_table d m) (home_table d) }
+{}
+
+/// A table that lets some forwards wait and puts others off is sound, where none of its states stands twice, they lie between those of both modes, and
+/// each row leads to one of them.
+pub fn mixed_tables_are_sound()
+    ensures { (d : Draft) (pick : Desc → Input → Mode) (states : List Desc) → IsWellFormed d → IsShaped d → IsMix d pick states
+        → IsSound d (mixed_table d pick states) (home_table d) }
+{}
+
+/// In a state of a sound table and at an input the row that is found follows one of the choices that may be made there. Where none may be made, no row
+/// is found.
+pub fn sound_tables_answer()
+    ensures some { (d : Draft) (t : List TableState) (n : ℕ) (s : TableState) (i : Input) (c : Choice) (cs : List Choice) → IsSoundCache d t
+        → slice_get t n ≡ Some s → choices d s.desc i ≡ c ∷ cs → (r : Row) × (find_row t n i ≡ Some r) × Follows t (c ∷ cs) r }
+    ensures none { (d : Draft) (t : List TableState) (n : ℕ) (s : TableState) (i : Input) → IsSoundCache d t → slice_get t n ≡ Some s
+        → choices d s.desc i ≡ [] → find_row t n i ≡ None }
+{}
+
+/// Where a forward comes behind the operation of a cache there are two choices: it waits, and the state stays the same, or it is taken at once, an inv
+/// by an acknowledgement and another by being put off, and the state's tag tells which has come. Elsewhere there is one choice at most. So where
+/// forwards wait, a cache lets exactly those wait that come behind its operation, and does nothing else with them; where they are put off, it lets none
+/// wait.
+pub fn after_forwards_stall()
+    ensures both { (d : Draft) (e : Event) (x : ℕ) (p : Phase) (t : Tag) (f : ℕ) → comes_behind d (Ask e x p t) (at.Forward f) ≡ true
+        → choices d (Ask e x p t) (at.Forward f) ≡ record { acts = act.Stall ∷ []; next = Ask e x p t }
+        ∷ record { acts = (if has_class class.Inv d f then act.Ack else act.Defer) ∷ []; next = Ask e x p (tag_by d f) } ∷ [] }
+    ensures forwards { (d : Draft) (s : Desc) (i : Input) → comes_behind d s i ≡ true
+        → (e : Event) × (x : ℕ) × (p : Phase) × (t : Tag) × (f : ℕ) × (s ≡ Ask e x p t) × (i ≡ at.Forward f) }
+    ensures one { (d : Draft) (s : Desc) (i : Input) → comes_behind d s i ≡ false → (choices d s i ≡ []) ⊎ ((c : Choice) × (choices d s i ≡ c ∷ [])) }
+    ensures stalls { (d : Draft) (s : Desc) (i : Input) (c : Choice) → chosen mode.Stall (choices d s i) ≡ Some c
+        → ((c.acts ≡ act.Stall ∷ []) ↔ (comes_behind d s i ≡ true)) }
+    ensures others { (d : Draft) (m : Mode) (s : Desc) (i : Input) (c : Choice) → chosen m (choices d s i) ≡ Some c → comes_behind d s i ≡ false
+        → list_any is_stall c.acts ≡ false }
+    ensures put_off { (d : Draft) (s : Desc) (i : Input) (c : Choice) → chosen mode.Defer (choices d s i) ≡ Some c → list_any is_stall c.acts ≡ false }
 {}

@@ -5,14 +5,34 @@
 
 mod cache;
 mod dir_table;
+mod due_laws;
 mod home;
+mod home_laws;
 mod laws;
 mod table;
+mod table_laws;
+mod tables;
 #[cfg(test)]
 mod tests;
+mod worked;
 
 pub use cache::{Act, Acts, Desc, Input, Inputs, Phase, Row, Rows, Tag};
 pub use dir_table::{DirTable, DirTableState};
+pub use due_laws::{inputs_that_may_come, sound_tables_pick};
 pub use home::{DirAct, DirActs, DirDesc, DirInput, DirInputs, DirRow, DirRows};
-pub use laws::{worked_states, worked_tables};
+pub use home_laws::{
+    busy_states_have_rows, home_cases_have_rows, home_rows_lead_to_states, home_stalls_when_busy,
+    home_table_answers,
+};
+pub use laws::{
+    after_forwards_stall, generated_tables_are_sound, inputs_are_listed_once,
+    mixed_tables_are_sound, rows_are_for_one_input, rows_lead_to_states, sound_tables_answer,
+    states_are_told_apart, states_have_numbers, states_of_both_modes,
+};
 pub use table::{Table, TableState};
+pub use table_laws::{
+    deferring_tables_never_stall, home_tables_have_one_row, home_tables_stall_when_busy,
+    stalling_tables_stall_after_forwards, tags_tell_the_state,
+};
+pub use tables::Tables;
+pub use worked::{worked_mix, worked_states, worked_tables};

@@ -56,7 +56,7 @@ impl Table {
         Ok(())
     }
 
-    #[tactic(auto, using(crate::proofs::Tables::set_last_is_with_row))]
+    #[tactic(auto, using(crate::proofs::LastState::set_last_is_with_row))]
     /// Puts a row last among those of the last state. Where memory runs out, the table stays as it was and the row is given up.
     pub fn add_row(&mut self, row: Row) -> Result<(), AllocError>
         requires { 0 < length self.old }
@@ -65,6 +65,13 @@ impl Table {
     {
         let last = self.states.len() - 1;
         self.states[last].rows.push(row)
+    }
+
+    /// The states with their rows, by number.
+    pub fn as_slice(&self) -> &[TableState]
+        ensures { result.now ≡ self.now }
+    {
+        self.states.as_slice()
     }
 
     /// How many states there are.

@@ -1,0 +1,124 @@
+-- The rows of the generated directory controller lead to its states.
+use Rattle.std.proofs.Common.{◌≡◌, ℕ, zero, suc, Bool, true, false, cond, ◌&&◌, List, [], ◌∷◌, ◌++◌, map, Option, Some, None, refl, subst}
+use Rattle.std.specs.Prelude.{slice_get, ◌==◌}
+use Rattle.std.specs.Option.{option_and_then}
+use Rattle.std.specs.List.{list_any, flat_map}
+use Rattle.std.proofs.lemmas.Bool.{eq-eqb}
+use Rattle.std.proofs.lemmas.Option.{same_Some}
+use Rattle.pg_perm.specs.declared.kinds.Who.{Who}
+use Rattle.pg_perm.specs.declared.kinds.ReqClass.{ReqClass}
+use Rattle.pg_perm.specs.declared.kinds.ReqClass.TheVariants.{Read, Write}
+use Rattle.pg_perm.specs.declared.draft.Draft.{Draft}
+use Rattle.pg_perm.specs.declared.draft.RowLine.{RowLine}
+use Rattle.pg_perm.specs.declared.draft.Action.{Action}
+use Rattle.pg_perm.specs.Drafts.{has_dir, has_row_form, has_row, IsWellFormed}
+use Rattle.pg_terms.specs.declared.cases.DirCase.{DirCase}
+use Rattle.pg_terms.specs.declared.cases.DirCase.TheVariants as case
+use Rattle.pg_terms.specs.Terms.{dir_row}
+use Rattle.pg_terms.specs.Due.{is_due_case}
+use Rattle.pg_terms.specs.Rows.{action_in, is_by_share}
+use Rattle.pg_shape.proofs.Bools.{three_and, and_both}
+use Rattle.pg_shape.proofs.Searches.{any_at, all_at}
+use Rattle.pg_table.specs.declared.home.DirDesc.{DirDesc}
+use Rattle.pg_table.specs.declared.home.DirDesc.TheVariants.{State, Busy}
+use Rattle.pg_table.specs.declared.home.DirInput.{DirInput}
+use Rattle.pg_table.specs.declared.home.DirInput.TheVariants as at
+use Rattle.pg_table.specs.declared.home.DirAct.{DirAct}
+use Rattle.pg_table.specs.declared.home.DirAct.TheVariants as act
+use Rattle.pg_table.specs.Home.{home_descs, home_inputs, HomeChoice, evict_acts, by_ask, ask_choice, due_row, home_choice, HomeRow, home_row_for, HomeState, home_generated}
+use Rattle.pg_table.specs.Tables.{same_dir_desc}
+use Rattle.pg_shape.proofs.Cores.{all_formed}
+use Rattle.pg_shape.proofs.Rows.{row_at}
+use Rattle.pg_table.proofs.Same.{same_dir_desc_self}
+use Rattle.pg_table.proofs.Lists.{get_map}
+use Rattle.pg_table.proofs.HomeStates.{is_home, state_home, busy_home, busy_declared}
+
+-- the row of a due case is a line of the draft, which leads to a declared state
+due_line : (d : Draft) (n : ℕ) (a : DirCase) (r : RowLine) → due_row d n a ≡ Some r → dir_row d n a ≡ Some r
+due_line d n a r h = at (is_due_case d n a) h
+  where
+    at : (b : Bool) → cond b (dir_row d n a) None ≡ Some r → dir_row d n a ≡ Some r
+    at true g = g
+    at false g = absurd cc
+
+row_leads : (d : Draft) → IsWellFormed d → (n : ℕ) (a : DirCase) (r : RowLine) → due_row d n a ≡ Some r
+    → (k : ℕ) × (slice_get d.rows k ≡ Some r) × (has_dir d r.next ≡ true)
+row_leads d w n a r h =
+    let (k, get, dir, for) = row_at d n a r (due_line d n a r h) in
+    let formed : has_row d r ≡ true = all_at (has_row d) d.rows k r (all_formed d w).2 get in
+    (k, get, (three_and (has_dir d r.dir) (has_row_form d r.form) (has_dir d r.next) formed).2)
+
+-- where a row that passes a request on by a share leads
+share_leads : (d : Draft) (k : ℕ) (r : RowLine) → slice_get d.rows k ≡ Some r → has_dir d r.next ≡ true → is_home d (cond (is_by_share d r) (Busy r.next) (State r.next)) ≡ true
+share_leads d k r g h = at (is_by_share d r) refl
+  where
+    at : (b : Bool) → is_by_share d r ≡ b → is_home d (cond b (Busy r.next) (State r.next)) ≡ true
+    at true e = busy_home d r.next h
+        (any_at (λ x. is_by_share d x && x.next == r.next) d.rows k r g (and_both (is_by_share d r) (r.next == r.next) e (eq-eqb r.next r.next refl)))
+    at false e = state_home d r.next h
+
+ask_leads : (d : Draft) (n k : ℕ) (class : ReqClass) (r : RowLine) (c : HomeChoice) (o : Option Action) → slice_get d.rows k ≡ Some r → has_dir d r.next ≡ true
+    → ask_choice d n class r o ≡ Some c → is_home d c.next ≡ true
+ask_leads d n k class r c None g h e = absurd cc
+ask_leads d n k class r c (Some does) g h e =
+    subst (λ (c : HomeChoice). is_home d c.next ≡ true) (same_Some (by_ask d n class r does) c e) (share_leads d k r g h)
+
+asked_leads : (d : Draft) → IsWellFormed d → (n : ℕ) (class : ReqClass) (a : DirCase) (c : HomeChoice) (o : Option RowLine) → due_row d n a ≡ o
+    → option_and_then (λ r. ask_choice d n class r (action_in r.form)) o ≡ Some c → is_home d c.next ≡ true
+asked_leads d w n class a c None g e = absurd cc
+asked_leads d w n class a c (Some r) g e = let (k, f, h) = row_leads d w n a r g in ask_leads d n k class r c (action_in r.form) f h e
+
+-- a choice that goes to this state leads to it
+goes : (d : Draft) (x : DirDesc) (acts : List DirAct) (c : HomeChoice) → Some (record { acts = acts; next = x }) ≡ Some c → is_home d x ≡ true → is_home d c.next ≡ true
+goes d x acts c e h = subst (λ (c : HomeChoice). is_home d c.next ≡ true) (same_Some (record { acts = acts; next = x }) c e) h
+
+left_leads : (d : Draft) → IsWellFormed d → (n : ℕ) (who : Who) (a : DirCase) (c : HomeChoice) (o : Option RowLine) → due_row d n a ≡ o
+    → option_and_then (λ r. Some (record { acts = evict_acts who; next = State r.next })) o ≡ Some c → is_home d c.next ≡ true
+left_leads d w n who a c None g e = absurd cc
+left_leads d w n who a c (Some r) g e =
+    let (k, f, h) = row_leads d w n a r g in
+    goes d (State r.next) (evict_acts who) c e (state_home d r.next h)
+
+-- and one that stays leads to where it is
+stays : (d : Draft) (k : ℕ) (x : DirDesc) (acts : List DirAct) (c : HomeChoice) → slice_get (home_descs d) k ≡ Some x → Some (record { acts = acts; next = x }) ≡ Some c
+    → is_home d c.next ≡ true
+stays d k x acts c g e = goes d x acts c e (any_at (same_dir_desc x) (home_descs d) k x g (same_dir_desc_self x))
+
+-- a choice that is made at a state of the directory leads to one
+pub choice_leads : (d : Draft) → IsWellFormed d → (k : ℕ) (x : DirDesc) (i : DirInput) (c : HomeChoice) → slice_get (home_descs d) k ≡ Some x → home_choice d x i ≡ Some c
+    → is_home d c.next ≡ true
+choice_leads d w k (State n) (at.Ask class who) c g e = asked_leads d w n class (case.Ask class who) c (due_row d n (case.Ask class who)) refl e
+choice_leads d w k (State n) (at.Evict who left) c g e = left_leads d w n who (case.Evict who left) c (due_row d n (case.Evict who left)) refl e
+choice_leads d w k (State n) at.EvictNone c g e = stays d k (State n) (act.PutAck ∷ []) c g e
+choice_leads d w k (Busy n) (at.BusyAsk Read) c g e = stays d k (Busy n) (act.Stall ∷ []) c g e
+choice_leads d w k (Busy n) (at.BusyAsk Write) c g e = stays d k (Busy n) (act.Stall ∷ []) c g e
+choice_leads d w k (Busy n) at.BusyEvict c g e = stays d k (Busy n) (act.Stall ∷ []) c g e
+choice_leads d w k (Busy n) at.Wb c g e = goes d (State n) (act.Write ∷ []) c e (state_home d n (busy_declared d k n g))
+choice_leads d _ k _ _ c _ e = absurd cc
+
+-- a row of a state is that of a choice
+row_choice : (f : DirInput → Option HomeChoice) (is : List DirInput) (k : ℕ) (r : HomeRow) → slice_get (flat_map (λ i. home_row_for i (f i)) is) k ≡ Some r → f r.input ≡ Some r.choice
+row_choice f [] k r h = absurd cc
+row_choice f (i ∷ is) k r h = at (f i) refl k h (λ k. row_choice f is k r)
+  where
+    at : (o : Option HomeChoice) → f i ≡ o → (k : ℕ) → slice_get (home_row_for i o ++ flat_map (λ i. home_row_for i (f i)) is) k ≡ Some r
+        → ((k : ℕ) → slice_get (flat_map (λ i. home_row_for i (f i)) is) k ≡ Some r → f r.input ≡ Some r.choice) → f r.input ≡ Some r.choice
+    at None e k h behind = behind k h
+    at (Some c) e zero h behind = subst (λ (r : HomeRow). f r.input ≡ Some r.choice) (same_Some (record { input = i; choice = c }) r h) e
+    at (Some c) e (suc k) h behind = behind k h
+
+-- a state of the directory's table is one of the directory with its rows
+state_rows : (d : Draft) (xs : List DirDesc) (n : ℕ) (s : HomeState)
+    → slice_get (map (λ s. record { desc = s; rows = flat_map (λ i. home_row_for i (home_choice d s i)) home_inputs }) xs) n ≡ Some s
+    → (slice_get xs n ≡ Some s.desc) × (s.rows ≡ flat_map (λ i. home_row_for i (home_choice d s.desc i)) home_inputs)
+state_rows d xs n s h =
+    let (x, get, is) = get_map (λ s. record { desc = s; rows = flat_map (λ i. home_row_for i (home_choice d s i)) home_inputs }) xs n s h in
+    subst (λ (s : HomeState). (slice_get xs n ≡ Some s.desc) × (s.rows ≡ flat_map (λ i. home_row_for i (home_choice d s.desc i)) home_inputs)) is (get, refl)
+
+-- each row of the directory leads to one of its states
+pub leads : (d : Draft) (n k : ℕ) (s : HomeState) (r : HomeRow) → IsWellFormed d → slice_get (home_generated d) n ≡ Some s → slice_get s.rows k ≡ Some r
+    → list_any (same_dir_desc r.choice.next) (home_descs d) ≡ true
+leads d n k s r w h g =
+    let (at, rows) = state_rows d (home_descs d) n s h in
+    let row = subst (λ (rows : List HomeRow). slice_get rows k ≡ Some r) rows g in
+    choice_leads d w n s.desc r.input r.choice at (row_choice (home_choice d s.desc) home_inputs k r row)

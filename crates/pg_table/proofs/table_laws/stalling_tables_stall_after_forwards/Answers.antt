@@ -1,0 +1,11 @@
+use Rattle.pg_table.proofs.TableRows.{behind_stalls, others_no_stall, behind_row}
+use Rattle.pg_table.proofs.table_laws.stalling_tables_stall_after_forwards.Goals as goal
+
+pub returns-clause-stalls : goal.returns-clause-stalls
+returns-clause-stalls c = behind_stalls
+
+pub returns-clause-others : goal.returns-clause-others
+returns-clause-others c = others_no_stall
+
+pub returns-clause-row : goal.returns-clause-row
+returns-clause-row c = behind_row
