@@ -1,0 +1,9 @@
+pub mod Ranges
+pub mod Race
+pub mod Stores
+pub mod Rows
+pub mod Counts
+pub mod Messages
+pub mod HomeNexts
+pub mod HomeSteps
+pub mod HomeCounts

@@ -1,0 +1,34 @@
+//! Laws of the definitions of this crate.
+
+ghost use Rattle.std.specs.Prelude.{ℕ, ◌≡◌, true, Some};
+ghost use Rattle.pg_perm.specs.declared.kinds.Event.{Event};
+ghost use Rattle.pg_perm.specs.declared.kinds.FwdClass.{FwdClass};
+ghost use Rattle.pg_perm.specs.declared.kinds.Mode.{Mode};
+ghost use Rattle.pg_perm.specs.declared.kinds.Role.{Role};
+ghost use Rattle.pg_perm.specs.declared.draft.Draft.{Draft};
+ghost use Rattle.pg_perm.specs.Drafts.{IsWellFormed};
+ghost use Rattle.pg_shape.specs.Shaped.{IsShaped};
+ghost use Rattle.pg_race.specs.Sides.{side};
+ghost use Rattle.pg_table.specs.declared.cache.Desc.{Desc};
+ghost use Rattle.pg_table.specs.declared.cache.Input.TheVariants as at;
+ghost use Rattle.pg_table.specs.Choices.{answered, choices};
+ghost use Rattle.pg_table.specs.Descriptors.{descs};
+ghost use Rattle.pg_table.specs.Sound.{is_among};
+ghost use Rattle.pg_infer.specs.Race.{class_of, event_of, start_of, role_of, is_granted, by_side, is_answer};
+
+/// In each state with an outstanding operation the race order decides what may be done with a forward. Where it puts the forward's transaction before
+/// the own one, the forward is answered at once, as in the stable state where the operation began or has been led since, and the operation goes on from
+/// the state that the answer leads to. Where it puts it after, the forward waits, or is taken: an inv is acknowledged and another is put off. There
+/// it has no choice at all where it can't come behind the operation.
+pub fn the_race_order_decides()
+    ensures { (d : Draft) (m : Mode) (s : Desc) (event : Event) (f : ℕ) (class : FwdClass) → IsWellFormed d → IsShaped d → is_among (descs d m) s ≡ true
+        → event_of s ≡ Some event → class_of d f ≡ Some class
+        → (start : Role) × (role_of d (start_of s) ≡ Some start)
+        × (choices d s (at.Forward f) ≡ by_side d (side start event (is_granted s) class) s f) }
+{}
+
+#[tactic(auto, using(crate::proofs::Race::answers_do_not_wait))]
+/// A forward that is answered has at most one choice, in which nothing waits or is put off.
+pub fn answers_do_not_wait()
+    ensures { (d : Draft) (s : ℕ) (f : ℕ) (onward : ℕ → Desc) → is_answer (answered d s f onward) ≡ true }
+{}

@@ -1,0 +1,20 @@
+//! The generator: the tables of both controllers, of the stable states of a protocol.
+//!
+//! docs/TABLES.md has the tables by an example.
+#![tactic(auto)]
+
+mod after;
+mod asking;
+mod choice;
+mod choices;
+mod directory;
+mod forwards;
+mod generator;
+mod inputs;
+mod laws;
+mod stable;
+mod states;
+mod table;
+
+pub use generator::generate;
+pub use laws::the_race_order_decides;
