@@ -1,0 +1,8 @@
+pub mod Joining
+pub mod Lacking
+pub mod Endings
+pub mod Written
+pub mod Joins
+pub mod Known
+pub mod Starts
+pub mod Apart

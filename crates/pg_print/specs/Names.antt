@@ -1,0 +1,61 @@
+-- The names of the states of the controllers.
+use Rattle.std.specs.Prelude.{ℕ, Bool, ◌&&◌, ◌==◌, if◌then◌else◌, List, [], ◌∷◌, ◌++◌, codes, length, slice_get, unwrap_or}
+use Rattle.pg_perm.specs.declared.draft.Draft.{Draft}
+use Rattle.pg_perm.specs.Drafts.{cache_names, dir_names, message_names}
+use Rattle.pg_table.specs.declared.cache.Desc.{Desc}
+use Rattle.pg_table.specs.declared.cache.Desc.TheVariants.{Stable, Ask, Leave}
+use Rattle.pg_table.specs.declared.cache.Phase.{Phase}
+use Rattle.pg_table.specs.declared.cache.Phase.TheVariants.{D, Ad, Ac, A}
+use Rattle.pg_table.specs.declared.cache.Tag.{Tag}
+use Rattle.pg_table.specs.declared.cache.Tag.TheVariants.{Plain, Kept, Gave, Gone}
+use Rattle.pg_table.specs.declared.home.DirDesc.{DirDesc}
+use Rattle.pg_table.specs.declared.home.DirDesc.TheVariants.{State, Busy}
+use Rattle.pg_table.specs.Descriptors.{out_state, finals}
+
+-- the name with this number; a number past the last has no name
+abbrev pub name_of : List (List ℕ) → ℕ → List ℕ
+name_of names n = unwrap_or (slice_get names n) []
+
+abbrev pub cache_name : Draft → ℕ → List ℕ
+cache_name d s = name_of (cache_names d) s
+
+abbrev pub dir_name : Draft → ℕ → List ℕ
+dir_name d n = name_of (dir_names d) n
+
+abbrev pub message_name : Draft → ℕ → List ℕ
+message_name d m = name_of (message_names d) m
+
+-- the name of the first of these states, if there is one
+abbrev pub first_name : Draft → List ℕ → List ℕ
+first_name d [] = []
+first_name d (s ∷ ss) = cache_name d s
+
+-- the name has one character
+abbrev pub is_single : List ℕ → Bool
+is_single name = length name == 1
+
+-- two names as one, which still tells where the first ends
+abbrev pub join : List ℕ → List ℕ → List ℕ
+join a b = if is_single a && is_single b then a ++ b else a ++ codes "." ++ b
+
+abbrev pub phase_word : Phase → List ℕ
+phase_word D = codes "_D"
+phase_word Ad = codes "_AD"
+phase_word Ac = codes "_AC"
+phase_word A = codes "_A"
+
+abbrev pub tag_word : Tag → List ℕ
+tag_word Plain = []
+tag_word Kept = codes "_kept"
+tag_word Gave = codes "_gave"
+tag_word Gone = codes "_gone"
+
+-- where an operation began and where it ends with its first final state, what it waits for, and its tag; an evict ends as out
+abbrev pub state_name : Draft → Desc → List ℕ
+state_name d (Stable s) = cache_name d s
+state_name d (Ask event s phase tag) = join (cache_name d s) (first_name d (finals d s event)) ++ phase_word phase ++ tag_word tag
+state_name d (Leave s) = join (cache_name d s) (cache_name d (out_state d)) ++ codes "_A"
+
+abbrev pub home_name : Draft → DirDesc → List ℕ
+home_name d (State n) = dir_name d n
+home_name d (Busy n) = dir_name d n ++ codes "_D"

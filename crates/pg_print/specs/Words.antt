@@ -1,0 +1,92 @@
+-- The words for inputs and acts.
+use Rattle.std.specs.Prelude.{ℕ, List, [], ◌∷◌, ◌++◌, codes}
+use Rattle.std.specs.Option.{option_map_or}
+use Rattle.pg_perm.specs.declared.kinds.Event.{Event}
+use Rattle.pg_perm.specs.declared.kinds.Event.TheVariants.{Load, Store, Evict}
+use Rattle.pg_perm.specs.declared.kinds.Mode.{Mode}
+use Rattle.pg_perm.specs.declared.kinds.Mode.TheVariants as mode
+use Rattle.pg_perm.specs.declared.kinds.Who.{Who}
+use Rattle.pg_perm.specs.declared.kinds.Who.TheVariants.{Other, Sharer, Owner}
+use Rattle.pg_perm.specs.declared.kinds.Left.{Left}
+use Rattle.pg_perm.specs.declared.kinds.Left.TheVariants.{Last, More}
+use Rattle.pg_perm.specs.declared.kinds.ReqClass.{ReqClass}
+use Rattle.pg_perm.specs.declared.draft.Draft.{Draft}
+use Rattle.pg_terms.specs.Terms.{request_of}
+use Rattle.pg_table.specs.declared.cache.Input.{Input}
+use Rattle.pg_table.specs.declared.cache.Input.TheVariants as at
+use Rattle.pg_table.specs.declared.cache.Act.{Act}
+use Rattle.pg_table.specs.declared.cache.Act.TheVariants as act
+use Rattle.pg_table.specs.declared.home.DirInput.{DirInput}
+use Rattle.pg_table.specs.declared.home.DirInput.TheVariants as met
+use Rattle.pg_table.specs.declared.home.DirAct.{DirAct}
+use Rattle.pg_table.specs.declared.home.DirAct.TheVariants as does
+use Rattle.pg_print.specs.Names.{message_name}
+
+abbrev pub mode_word : Mode → List ℕ
+mode_word mode.Stall = codes "stall"
+mode_word mode.Defer = codes "defer"
+
+-- Cache controllers
+
+abbrev pub event_word : Event → List ℕ
+event_word Load = codes "load"
+event_word Store = codes "store"
+event_word Evict = codes "evict"
+
+abbrev pub input_word : Draft → Input → List ℕ
+input_word d (at.Core event) = event_word event
+input_word d (at.Forward f) = message_name d f
+input_word d at.CountAll = codes "AckCount.all"
+input_word d at.CountPart = codes "AckCount.part"
+input_word d at.PutAck = codes "PutAck"
+input_word d (at.DataAll r) = message_name d r ++ codes ".all"
+input_word d (at.DataPart r) = message_name d r ++ codes ".part"
+input_word d at.AckMore = codes "InvAck.more"
+input_word d at.AckLast = codes "InvAck.last"
+
+abbrev pub act_words : Draft → Act → List (List ℕ)
+act_words d act.Hit = codes "hit" ∷ []
+act_words d act.Skip = codes "skip" ∷ []
+act_words d (act.Send m) = codes "send" ∷ message_name d m ∷ []
+act_words d act.Ack = codes "ack" ∷ []
+act_words d (act.Give m) = codes "give" ∷ message_name d m ∷ []
+act_words d act.Wb = codes "wb" ∷ []
+act_words d act.Fill = codes "fill" ∷ []
+act_words d act.Need = codes "need" ∷ []
+act_words d act.Count = codes "count" ∷ []
+act_words d act.Done = codes "done" ∷ []
+act_words d act.Defer = codes "defer" ∷ []
+act_words d act.Serve = codes "serve" ∷ []
+act_words d act.Stall = codes "stall" ∷ []
+
+-- The directory controller
+
+-- the name of the first request of a class
+abbrev pub request_name : Draft → ReqClass → List ℕ
+request_name d class = option_map_or (message_name d) (request_of d class) []
+
+abbrev pub who_word : Who → List ℕ
+who_word Other = codes "other"
+who_word Sharer = codes "sharer"
+who_word Owner = codes "owner"
+
+abbrev pub left_word : Left → List ℕ
+left_word Last = codes "last"
+left_word More = codes "more"
+
+abbrev pub home_input_word : Draft → DirInput → List ℕ
+home_input_word d (met.Ask class who) = request_name d class ++ codes "." ++ who_word who
+home_input_word d (met.Evict who left) = codes "evict." ++ who_word who ++ codes "." ++ left_word left
+home_input_word d met.EvictNone = codes "evict.none"
+home_input_word d (met.BusyAsk class) = request_name d class
+home_input_word d met.BusyEvict = codes "evict"
+home_input_word d met.Wb = codes "WbData"
+
+abbrev pub home_act_words : Draft → DirAct → List (List ℕ)
+home_act_words d (does.Reply m) = codes "reply" ∷ message_name d m ∷ []
+home_act_words d (does.Forward m) = codes "forward" ∷ message_name d m ∷ []
+home_act_words d does.Inv = codes "inv" ∷ []
+home_act_words d does.AckCount = codes "ackcount" ∷ []
+home_act_words d does.Write = codes "write" ∷ []
+home_act_words d does.PutAck = codes "putack" ∷ []
+home_act_words d does.Stall = codes "stall" ∷ []

@@ -1,0 +1,125 @@
+//! The lines of the table of the directory controller.
+ghost use Rattle.std.specs.Prelude.{◌≡◌, ◌++◌, map, IfOk};
+ghost use Rattle.std.specs.List.{flat_map};
+ghost use Rattle.std.specs.String.{string_bytes};
+ghost use Rattle.pg_lines.specs.Lines.{line_text, text_of};
+ghost use Rattle.pg_print.specs.TableText as print;
+
+use crate::line::{name_of, put_line, put_names};
+use crate::name::home_name;
+use crate::word::{home_input_word, put_home_acts};
+use pg_perm::Draft;
+use pg_table::{DirInput, DirRow, DirTableState};
+use std::alloc::{AllocError, Global};
+
+fn home_names(
+    alloc: Global,
+    draft: &Draft,
+    states: &[DirTableState],
+) -> Result<Vec<String>, AllocError>
+    ensures { IfOk result (λ names. map string_bytes names.items ≡ print.home_names draft.now states.now) }
+{
+    let mut names = Vec::new(alloc);
+    for state in states {
+        let name = home_name(alloc, draft, state.desc)?;
+        names.push(name)?;
+    }
+    Ok(names)
+}
+
+/// Puts the line of a row of the directory for an input last.
+fn put_input(
+    alloc: Global,
+    text: &mut String,
+    draft: &Draft,
+    names: &[String],
+    name: &str,
+    row: &DirRow,
+    input: DirInput,
+) -> Result<(), AllocError>
+    ensures { IfOk result (λ _. string_bytes text.new ≡ string_bytes text.old
+        ++ line_text (print.home_input_line draft.now (map string_bytes names.now) name.now row.now input)) }
+{
+    let met = home_input_word(alloc, draft, input)?;
+    let mut words = Vec::new(alloc);
+    words.push("at")?;
+    words.push(name)?;
+    words.push(met.as_str())?;
+    put_home_acts(&mut words, draft, row.acts.as_slice())?;
+    words.push("->")?;
+    words.push(name_of(names, usize::from(row.next)))?;
+    put_line(alloc, text, &words)
+}
+
+/// Puts the lines of a row of the directory last.
+fn put_row(
+    alloc: Global,
+    text: &mut String,
+    draft: &Draft,
+    names: &[String],
+    name: &str,
+    row: &DirRow,
+) -> Result<(), AllocError>
+    ensures { IfOk result (λ _. string_bytes text.new ≡ string_bytes text.old
+        ++ text_of (print.home_row_lines draft.now (map string_bytes names.now) name.now row.now)) }
+{
+    let mut left = row.inputs.as_slice();
+    while let Some((input, rest)) = left.split_first() {
+        put_input(alloc, text, draft, names, name, row, *input)?;
+        left = rest;
+    }
+    Ok(())
+}
+
+/// Puts the lines of the rows of a directory state last.
+fn put_state(
+    alloc: Global,
+    text: &mut String,
+    draft: &Draft,
+    names: &[String],
+    state: &DirTableState,
+) -> Result<(), AllocError>
+    ensures { IfOk result (λ _. string_bytes text.new ≡ string_bytes text.old
+        ++ text_of (print.home_state_lines draft.now (map string_bytes names.now) state.now)) }
+{
+    let name = home_name(alloc, draft, state.desc)?;
+    let mut left = state.rows.as_slice();
+    while let Some((row, rest)) = left.split_first() {
+        put_row(alloc, text, draft, names, name.as_str(), row)?;
+        left = rest;
+    }
+    Ok(())
+}
+
+/// Puts the lines of the rows of directory states last.
+fn put_states(
+    alloc: Global,
+    text: &mut String,
+    draft: &Draft,
+    names: &[String],
+    states: &[DirTableState],
+) -> Result<(), AllocError>
+    ensures { IfOk result (λ _. string_bytes text.new ≡ string_bytes text.old
+        ++ text_of (flat_map (print.home_state_lines draft.now (map string_bytes names.now)) states.now)) }
+{
+    let mut left = states;
+    while let Some((state, rest)) = left.split_first() {
+        put_state(alloc, text, draft, names, state)?;
+        left = rest;
+    }
+    Ok(())
+}
+
+/// Puts the lines of the table of the directory controller last.
+pub fn put_home(
+    alloc: Global,
+    text: &mut String,
+    draft: &Draft,
+    states: &[DirTableState],
+) -> Result<(), AllocError>
+    ensures { IfOk result (λ _. string_bytes text.new ≡ string_bytes text.old ++ text_of (print.home_lines draft.now states.now)) }
+{
+    let names = home_names(alloc, draft, states)?;
+    put_names(alloc, text, "home", &names)?;
+    put_states(alloc, text, draft, &names, states)
+}

@@ -1,0 +1,206 @@
+//! The words for inputs and acts.
+ghost use Rattle.std.specs.Prelude.{◌≡◌, ◌++◌, map, codes, IfOk};
+ghost use Rattle.std.specs.List.{flat_map};
+ghost use Rattle.std.specs.String.{string_bytes};
+ghost use Rattle.pg_print.specs.Names as name;
+ghost use Rattle.pg_print.specs.Words as word;
+
+use crate::name::message_name;
+use pg_perm::{Draft, Event, Left, Mode, ReqClass, Who};
+use pg_table::{Act, DirAct, DirInput, Input};
+use pg_terms::request_of;
+use std::alloc::{AllocError, Global};
+
+pub fn mode_word(mode: Mode) -> &'static str
+    ensures { result.now ≡ word.mode_word mode }
+{
+    match mode {
+        Mode::Stall => "stall",
+        Mode::Defer => "defer",
+    }
+}
+
+fn event_word(event: Event) -> &'static str
+    ensures { result.now ≡ word.event_word event }
+{
+    match event {
+        Event::Load => "load",
+        Event::Store => "store",
+        Event::Evict => "evict",
+    }
+}
+
+/// The name of a message, and what stands behind it.
+fn message_with(alloc: Global, draft: &Draft, message: u8, end: &str) -> Result<String, AllocError>
+    ensures { IfOk result (λ text. string_bytes text ≡ name.message_name draft.now message ++ end.now) }
+{
+    let mut text = String::from_str(alloc, message_name(draft, usize::from(message)))?;
+    text.push_str(end)?;
+    Ok(text)
+}
+
+pub fn input_word(alloc: Global, draft: &Draft, input: Input) -> Result<String, AllocError>
+    ensures { IfOk result (λ text. string_bytes text ≡ word.input_word draft.now input) }
+{
+    match input {
+        Input::Core(event) => String::from_str(alloc, event_word(event)),
+        Input::Forward(message) => {
+            String::from_str(alloc, message_name(draft, usize::from(message)))
+        }
+        Input::CountAll => String::from_str(alloc, "AckCount.all"),
+        Input::CountPart => String::from_str(alloc, "AckCount.part"),
+        Input::PutAck => String::from_str(alloc, "PutAck"),
+        Input::DataAll(message) => message_with(alloc, draft, message, ".all"),
+        Input::DataPart(message) => message_with(alloc, draft, message, ".part"),
+        Input::AckMore => String::from_str(alloc, "InvAck.more"),
+        Input::AckLast => String::from_str(alloc, "InvAck.last"),
+    }
+}
+
+/// Puts the words of an act last.
+fn put_act<'a>(words: &mut Vec<&'a str>, draft: &'a Draft, act: Act) -> Result<(), AllocError>
+    ensures { IfOk result (λ _. map (λ w. w.now) words.new.items ≡ map (λ w. w.now) words.old.items ++ word.act_words draft.now act) }
+{
+    match act {
+        Act::Hit => words.push("hit")?,
+        Act::Skip => words.push("skip")?,
+        Act::Send(message) => {
+            words.push("send")?;
+            words.push(message_name(draft, usize::from(message)))?;
+        }
+        Act::Ack => words.push("ack")?,
+        Act::Give(message) => {
+            words.push("give")?;
+            words.push(message_name(draft, usize::from(message)))?;
+        }
+        Act::Wb => words.push("wb")?,
+        Act::Fill => words.push("fill")?,
+        Act::Need => words.push("need")?,
+        Act::Count => words.push("count")?,
+        Act::Done => words.push("done")?,
+        Act::Defer => words.push("defer")?,
+        Act::Serve => words.push("serve")?,
+        Act::Stall => words.push("stall")?,
+    }
+    Ok(())
+}
+
+/// Puts the words of acts last.
+pub fn put_acts<'a>(
+    words: &mut Vec<&'a str>,
+    draft: &'a Draft,
+    acts: &[Act],
+) -> Result<(), AllocError>
+    ensures { IfOk result (λ _. map (λ w. w.now) words.new.items ≡ map (λ w. w.now) words.old.items ++ flat_map (word.act_words draft.now) acts.now) }
+{
+    let mut left = acts;
+    while let Some((act, rest)) = left.split_first() {
+        put_act(words, draft, *act)?;
+        left = rest;
+    }
+    Ok(())
+}
+
+/// The name of the first request of a class.
+fn request_name(draft: &Draft, class: ReqClass) -> &str
+    ensures { result.now ≡ word.request_name draft.now class }
+{
+    match request_of(draft, class) {
+        Some(message) => message_name(draft, message),
+        None => "",
+    }
+}
+
+fn who_word(who: Who) -> &'static str
+    ensures { result.now ≡ word.who_word who }
+{
+    match who {
+        Who::Other => "other",
+        Who::Sharer => "sharer",
+        Who::Owner => "owner",
+    }
+}
+
+fn left_word(left: Left) -> &'static str
+    ensures { result.now ≡ word.left_word left }
+{
+    match left {
+        Left::Last => "last",
+        Left::More => "more",
+    }
+}
+
+/// Two words with a dot between them.
+fn with_dot(alloc: Global, first: &str, last: &str) -> Result<String, AllocError>
+    ensures { IfOk result (λ text. string_bytes text ≡ first.now ++ codes "." ++ last.now) }
+{
+    let mut text = String::from_str(alloc, first)?;
+    text.push_str(".")?;
+    text.push_str(last)?;
+    Ok(text)
+}
+
+fn evict_word(alloc: Global, who: Who, left: Left) -> Result<String, AllocError>
+    ensures { IfOk result (λ text. string_bytes text ≡ codes "evict." ++ word.who_word who ++ codes "." ++ word.left_word left) }
+{
+    let mut text = String::from_str(alloc, "evict.")?;
+    text.push_str(who_word(who))?;
+    text.push_str(".")?;
+    text.push_str(left_word(left))?;
+    Ok(text)
+}
+
+pub fn home_input_word(alloc: Global, draft: &Draft, input: DirInput) -> Result<String, AllocError>
+    ensures { IfOk result (λ text. string_bytes text ≡ word.home_input_word draft.now input) }
+{
+    match input {
+        DirInput::Ask(class, who) => with_dot(alloc, request_name(draft, class), who_word(who)),
+        DirInput::Evict(who, left) => evict_word(alloc, who, left),
+        DirInput::EvictNone => String::from_str(alloc, "evict.none"),
+        DirInput::BusyAsk(class) => String::from_str(alloc, request_name(draft, class)),
+        DirInput::BusyEvict => String::from_str(alloc, "evict"),
+        DirInput::Wb => String::from_str(alloc, "WbData"),
+    }
+}
+
+/// Puts the words of an act of the directory last.
+fn put_home_act<'a>(
+    words: &mut Vec<&'a str>,
+    draft: &'a Draft,
+    act: DirAct,
+) -> Result<(), AllocError>
+    ensures { IfOk result (λ _. map (λ w. w.now) words.new.items ≡ map (λ w. w.now) words.old.items ++ word.home_act_words draft.now act) }
+{
+    match act {
+        DirAct::Reply(message) => {
+            words.push("reply")?;
+            words.push(message_name(draft, usize::from(message)))?;
+        }
+        DirAct::Forward(message) => {
+            words.push("forward")?;
+            words.push(message_name(draft, usize::from(message)))?;
+        }
+        DirAct::Inv => words.push("inv")?,
+        DirAct::AckCount => words.push("ackcount")?,
+        DirAct::Write => words.push("write")?,
+        DirAct::PutAck => words.push("putack")?,
+        DirAct::Stall => words.push("stall")?,
+    }
+    Ok(())
+}
+
+/// Puts the words of acts of the directory last.
+pub fn put_home_acts<'a>(
+    words: &mut Vec<&'a str>,
+    draft: &'a Draft,
+    acts: &[DirAct],
+) -> Result<(), AllocError>
+    ensures { IfOk result (λ _. map (λ w. w.now) words.new.items ≡ map (λ w. w.now) words.old.items ++ flat_map (word.home_act_words draft.now) acts.now) }
+{
+    let mut left = acts;
+    while let Some((act, rest)) = left.split_first() {
+        put_home_act(words, draft, *act)?;
+        left = rest;
+    }
+    Ok(())
+}
