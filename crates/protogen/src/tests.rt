@@ -9,10 +9,12 @@ use std::alloc::{AllocError, Global};
 use std::fmt::Write;
 use std::process::Abort;
 use std::test::Fail;
+use tables::{MI_DEFER, MI_STALL, MSI_DEFER, MSI_STALL};
 use texts::{MESI, MI, MIGRATORY, MOESI, MOSI, MSI, VISIBLE};
 
 mod histories;
 mod shapes;
+mod tables;
 mod texts;
 
 /// The most bytes that an input may have.
@@ -394,5 +396,50 @@ fn a_machine_makes_its_steps(rt: HostRuntime) -> Result<(), Fail> {
     assert_eq!(rt; (loaded.state, loaded.dir), (1, 1));
     assert_eq!(rt; machine.access(&protocol, 0, Access::Load), 5);
     assert!(rt; machine.may(&protocol, 63, Event::Evict));
+    Ok(())
+}
+
+/// What `compile` writes for a text, into a sink that fails at these calls and takes so many bytes at a time.
+fn compile(
+    alloc: Global,
+    mode: &str,
+    text: &str,
+    piece: u32,
+    fails: Vec<u64>,
+) -> Result<(Status, Vec<u8>), AllocError> {
+    let words = strings(alloc, &["compile", "--mode", mode])?;
+    let mut source = MemorySource::new(text.as_bytes().to_vec(alloc)?, 65536, Vec::new(alloc));
+    let mut sink = MemorySink::new(alloc, 65536, piece, fails)?;
+    let status = protogen(alloc, &words, &mut source, &mut sink);
+    Ok((status, sink.held().to_vec(alloc)?))
+}
+
+#[test]
+fn tables_are_those_worked_by_hand(rt: HostRuntime) -> Result<(), Fail> {
+    let alloc = rt.alloc();
+    for (text, mode, wanted) in [
+        (MI, "stall", MI_STALL),
+        (MI, "defer", MI_DEFER),
+        (MSI, "stall", MSI_STALL),
+        (MSI, "defer", MSI_DEFER),
+    ] {
+        let (status, written) = compile(alloc, mode, text, 65536, Vec::new(alloc))?;
+        assert_eq!(rt; status, Status::Done, "{mode}");
+        assert_eq!(rt; written.as_slice(), wanted.as_bytes(), "{mode}");
+    }
+    Ok(())
+}
+
+#[test]
+fn a_table_that_is_cut_is_a_write_fault(rt: HostRuntime) -> Result<(), Fail> {
+    let alloc = rt.alloc();
+    let mut fails = Vec::new(alloc);
+    fails.push(2)?;
+    let (status, written) = compile(alloc, "stall", MSI, 10, fails)?;
+    assert_eq!(rt; status, Status::WriteFault);
+    assert_eq!(rt; written.as_slice(), "table MSI ".as_bytes());
+    let (status, written) = compile(alloc, "slow", MSI, 10, Vec::new(alloc))?;
+    assert_eq!(rt; status, Status::Usage);
+    assert_eq!(rt; written.as_slice(), "usage\n".as_bytes());
     Ok(())
 }

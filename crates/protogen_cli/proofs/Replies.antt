@@ -12,7 +12,7 @@ use Rattle.protogen_cli.specs.Statuses.{IsOfText}
 use Rattle.pg_script.specs.Scripts.{Operations}
 use Rattle.pg_script.specs.Texts.{reading as script_reading}
 use Rattle.protogen_cli.specs.declared.words.Command.{Command}
-use Rattle.protogen_cli.specs.declared.words.Command.TheVariants.{Check, Atomic}
+use Rattle.protogen_cli.specs.declared.words.Command.TheVariants.{Check, Atomic, Compile}
 use Rattle.protogen_cli.specs.Replies.{Reply, too_long, most_bytes, answer_to_script, answer_to_protocol, answer_to_draft, answer_to_text, answer_to_input}
 use Rattle.protogen_cli.specs.Ends.{Tells, Outside, Ends}
 
@@ -43,6 +43,7 @@ answer_to_input-not-usage command input = at_length (nat_lt most_bytes (length i
     at_protocol : (command : Command) (d : Draft) (rest : List ℕ) → Usage ≡ (answer_to_protocol command d rest).status → ⊥
     at_protocol Check d rest e = cc
     at_protocol Atomic d rest e = at_script d (script_reading rest) e
+    at_protocol (Compile m) d rest e = cc
 
     at_draft : (d : Draft) (rest : List ℕ) (fault : Option Fault) → Usage ≡ (answer_to_draft command d rest fault).status → ⊥
     at_draft d rest None e = at_protocol command d rest e

@@ -10,9 +10,12 @@ use Rattle.protogen_cli.specs.declared.status.Status.{Status}
 use Rattle.pg_script.specs.Scripts.{Operations}
 use Rattle.pg_script.specs.Texts.{reading as script_reading}
 use Rattle.pg_atomic_run.specs.Histories.{histories}
+use Rattle.pg_table.specs.Tables.{generated_tables}
+use Rattle.pg_print.specs.TableText.{table_text}
+use Rattle.pg_perm.specs.declared.kinds.Mode.{Mode}
 use Rattle.protogen_cli.specs.declared.status.Status.TheVariants.{Done, Text, Usage, TooLong, Script}
 use Rattle.protogen_cli.specs.declared.words.Command.{Command}
-use Rattle.protogen_cli.specs.declared.words.Command.TheVariants.{Check, Atomic}
+use Rattle.protogen_cli.specs.declared.words.Command.TheVariants.{Check, Atomic, Compile}
 use Rattle.protogen_cli.specs.Words.{command_of}
 
 -- a status, and what is written before the call ends with it
@@ -56,10 +59,15 @@ abbrev pub answer_to_script : Draft → Result Operations Fault → Reply
 answer_to_script d (Ok s) = record { status = Done; bytes = histories d s }
 answer_to_script d (Err f) = script_fault f
 
+-- the reply to a protocol whose tables are asked for
+abbrev pub tables : Draft → Mode → Reply
+tables d m = record { status = Done; bytes = table_text (generated_tables d m) }
+
 -- the reply to a command on a protocol, with what stands behind its text
 abbrev pub answer_to_protocol : Command → Draft → List ℕ → Reply
 answer_to_protocol Check d rest = ok
 answer_to_protocol Atomic d rest = answer_to_script d (script_reading rest)
+answer_to_protocol (Compile m) d rest = tables d m
 
 -- the reply to a draft by its first fault of the shape, if it has one
 abbrev pub answer_to_draft : Command → Draft → List ℕ → Option Fault → Reply

@@ -14,11 +14,12 @@ use std::alloc::Global;
 /// Does what the words ask, from the source to the sink.
 ///
 /// `check` reads the source to its end and judges what it gave as the text of a protocol. It writes `ok`, or `line L rule R` for the first
-/// line L that breaks a rule and the first rule R that it breaks. `atomic` takes what stands behind the text's `end` line as a script, and
-/// where the text breaks no rule it writes the histories of the script's blocks on the atomic machine, or `script line L rule R` for the
-/// first line L of the script that breaks a rule and the first such rule R. Both write `too long` where the source gave 1,048,577 bytes,
-/// which is one more than an input may have. At other words it reads nothing and writes `usage`. All that is written is made before any of
-/// it is written.
+/// line L that breaks a rule and the first rule R that it breaks. The other commands do the same where a line breaks a rule. Where none does,
+/// `atomic` takes what stands behind the text's `end` line as a script and writes the histories of the script's blocks on the atomic machine,
+/// or `script line L rule R` for the first line L of the script that breaks a rule and the first such rule R; `compile --mode stall` and
+/// `compile --mode defer` write the tables of the protocol's controllers. All write `too long` where the source gave 1,048,577 bytes, which
+/// is one more than an input may have. At other words it reads nothing and writes `usage`. All that is written is made before any of it is
+/// written.
 ///
 /// `ReadFault` and `WriteFault` come as soon as the source or the sink has failed, and `Memory` where there was none left
 /// for the input, for what is read from it or for the output.

@@ -8,7 +8,9 @@ ghost use Rattle.protogen_cli.specs.Replies as replies;
 use crate::status::Status;
 use crate::words::Command;
 use pg_atomic_run::atomic_run;
-use pg_perm::{Draft, Fault};
+use pg_infer::generate;
+use pg_perm::{Draft, Fault, Mode};
+use pg_print::table_text;
 use pg_script::ScriptError;
 use pg_shape::{Protocol, ShapeError, shape};
 use pg_text::TextError;
@@ -75,6 +77,17 @@ impl Report {
         }
     }
 
+    /// Generates the tables of the protocol.
+    fn on_tables(alloc: Global, protocol: &Protocol, mode: Mode) -> Result<Self, AllocError>
+        ensures { IfOk result (λ report. report ≡ replies.tables protocol.now mode) }
+    {
+        let tables = generate(alloc, protocol, mode)?;
+        Ok(Report {
+            status: Status::Done,
+            bytes: table_text(alloc, &tables)?,
+        })
+    }
+
     /// Does what the command asks of a protocol, with what stands behind its text.
     fn on_protocol(
         alloc: Global,
@@ -88,6 +101,7 @@ impl Report {
         match command {
             Command::Check => Report::new(alloc, Status::Done, "ok\n"),
             Command::Atomic => Report::on_script(alloc, protocol, rest),
+            Command::Compile(mode) => Report::on_tables(alloc, protocol, mode),
         }
     }
 

@@ -1,6 +1,8 @@
 ghost use Rattle.std.specs.Prelude.{◌≡◌};
 ghost use Rattle.protogen_cli.specs.Words as spec;
 
+use pg_perm::Mode;
+
 /// What the words ask for.
 #[derive(Clone, Copy, Debug, PartialEq, Eq)]
 pub enum Command {
@@ -8,6 +10,8 @@ pub enum Command {
     Check,
     /// To run the script behind a text on its atomic machine.
     Atomic,
+    /// To generate the tables of its controllers.
+    Compile(Mode),
 }
 
 fn command_in(word: &str) -> Option<Command>
@@ -22,17 +26,40 @@ fn command_in(word: &str) -> Option<Command>
     }
 }
 
-/// The command that the words are, if they are one: a word alone.
+fn mode_in(word: &str) -> Option<Mode>
+    ensures { result ≡ spec.mode_in word.now }
+{
+    if word == "stall" {
+        Some(Mode::Stall)
+    } else if word == "defer" {
+        Some(Mode::Defer)
+    } else {
+        None
+    }
+}
+
+fn command_with(word: &str, option: &str, value: &str) -> Option<Command>
+    ensures { result ≡ spec.command_with word.now option.now value.now }
+{
+    if word == "compile" && option == "--mode" {
+        Some(Command::Compile(mode_in(value)?))
+    } else {
+        None
+    }
+}
+
+/// The command that the words are, if they are one: a word alone, or one with an option and its value.
 pub fn command_of(words: &[String]) -> Option<Command>
     ensures { result ≡ spec.command_of (spec.texts words.now) }
 {
     match words {
         [word] => command_in(word.as_str()),
+        [word, option, value] => command_with(word.as_str(), option.as_str(), value.as_str()),
         _ => None,
     }
 }
 
-/// Whether the words are those of a command: the one word `check`, or the one word `atomic`.
+/// Whether the words are those of a command: `check`, `atomic`, `compile --mode stall` or `compile --mode defer`.
 pub fn taken(words: &[String]) -> bool
     ensures { result ≡ spec.is_taken (spec.texts words.now) }
 {
