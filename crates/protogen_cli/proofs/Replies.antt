@@ -8,7 +8,7 @@ use Rattle.pg_text.specs.Texts.{reading}
 use Rattle.pg_shape.specs.FirstFaults.{shape_fault}
 use Rattle.protogen_cli.specs.declared.status.Status.{Status}
 use Rattle.protogen_cli.specs.declared.status.Status.TheVariants.{Done, Text, Usage, ReadFault, WriteFault, Memory, TooLong, Script}
-use Rattle.protogen_cli.specs.Statuses.{IsOfText}
+use Rattle.protogen_cli.specs.Statuses.{IsReplied, IsOfText}
 use Rattle.pg_script.specs.Scripts.{Operations}
 use Rattle.pg_script.specs.Texts.{reading as script_reading}
 use Rattle.protogen_cli.specs.declared.words.Command.{Command}
@@ -56,6 +56,31 @@ answer_to_input-not-usage command input = at_length (nat_lt most_bytes (length i
     at_length : (is_long : Bool) → Usage ≡ (if is_long then too_long else answer_to_text command input (reading input)).status → ⊥
     at_length true e = cc
     at_length false e = at_text (reading input) e
+
+-- the reply to an input has a status that a reply can have
+pub answer_to_input-replied : (command : Command) (input : List ℕ) → IsReplied (answer_to_input command input).status
+answer_to_input-replied command input = at_length (nat_lt most_bytes (length input))
+  where
+    at_script : (d : Draft) (read : Result Operations Fault) → IsReplied (answer_to_script d read).status
+    at_script d (Ok s) = tt
+    at_script d (Err f) = tt
+
+    at_protocol : (command : Command) (d : Draft) (rest : List ℕ) → IsReplied (answer_to_protocol command d rest).status
+    at_protocol Check d rest = tt
+    at_protocol Atomic d rest = at_script d (script_reading rest)
+    at_protocol (Compile m) d rest = tt
+
+    at_draft : (d : Draft) (rest : List ℕ) (fault : Option Fault) → IsReplied (answer_to_draft command d rest fault).status
+    at_draft d rest None = at_protocol command d rest
+    at_draft d rest (Some f) = tt
+
+    at_text : (read : Result (Draft × ℕ) Fault) → IsReplied (answer_to_text command input read).status
+    at_text (Ok (d, place)) = at_draft d (drop place input) (shape_fault d)
+    at_text (Err f) = tt
+
+    at_length : (is_long : Bool) → IsReplied (if is_long then too_long else answer_to_text command input (reading input)).status
+    at_length true = tt
+    at_length false = at_text (reading input)
 
 -- a call that ends as with a text replies as to a text
 pub of_text_due : (s : Status) (due : Reply) (old new : Outside) → Ends s due old new → IsOfText s → IsOfText due.status

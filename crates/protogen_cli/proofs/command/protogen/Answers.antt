@@ -1,6 +1,6 @@
 use Rattle.std.proofs.Common.{◌∙◌, ap, refl, subst, sym, arith}
-use Rattle.protogen_cli.specs.Statuses.{IsOfText}
-use Rattle.protogen_cli.proofs.Replies.{some_told, answer_to_input-not-usage, of_text_due, taken_not}
+use Rattle.protogen_cli.specs.Statuses.{IsReplied, IsOfText}
+use Rattle.protogen_cli.proofs.Replies.{some_told, answer_to_input-not-usage, answer_to_input-replied, of_text_due, taken_not}
 use Rattle.protogen_cli.proofs.command.protogen.Goals as goal
 
 pub returns-in_default-clause-answer : goal.returns-in_default-clause-answer
@@ -63,3 +63,8 @@ pub returns-in-Ok-clause-too_long : goal.returns-in-Ok-clause-too_long
 returns-in-Ok-clause-too_long g c =
     λ e. let ends = rw e at c.finish-in-Ok.ensures.ends 0 in
     c.in-Ok.ensures.too_long (sym (ends.due ∙ c.status.ensures))
+
+pub finish-requires-in-Ok-clause-replied : goal.finish-requires-in-Ok-clause-replied
+finish-requires-in-Ok-clause-replied g c =
+    let (input, _, same) = c.in-Ok.ensures.reply in
+    subst IsReplied (sym (c.status.ensures ∙ ap (λ r. r.status) same)) (answer_to_input-replied c.in-Some.command input)
