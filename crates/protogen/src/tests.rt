@@ -9,12 +9,10 @@ use std::alloc::{AllocError, Global};
 use std::fmt::Write;
 use std::process::Abort;
 use std::test::Fail;
-use tables::{MI_DEFER, MI_STALL, MSI_DEFER, MSI_STALL};
 use texts::{MESI, MI, MIGRATORY, MOESI, MOSI, MSI, VISIBLE};
 
 mod histories;
 mod shapes;
-mod tables;
 mod texts;
 
 /// The most bytes that an input may have.
@@ -412,22 +410,6 @@ fn compile(
     let mut sink = MemorySink::new(alloc, 65536, piece, fails)?;
     let status = protogen(alloc, &words, &mut source, &mut sink);
     Ok((status, sink.held().to_vec(alloc)?))
-}
-
-#[test]
-fn tables_are_those_worked_by_hand(rt: HostRuntime) -> Result<(), Fail> {
-    let alloc = rt.alloc();
-    for (text, mode, wanted) in [
-        (MI, "stall", MI_STALL),
-        (MI, "defer", MI_DEFER),
-        (MSI, "stall", MSI_STALL),
-        (MSI, "defer", MSI_DEFER),
-    ] {
-        let (status, written) = compile(alloc, mode, text, 65536, Vec::new(alloc))?;
-        assert_eq!(rt; status, Status::Done, "{mode}");
-        assert_eq!(rt; written.as_slice(), wanted.as_bytes(), "{mode}");
-    }
-    Ok(())
 }
 
 #[test]
