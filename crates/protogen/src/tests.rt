@@ -396,31 +396,3 @@ fn a_machine_makes_its_steps(rt: HostRuntime) -> Result<(), Fail> {
     assert!(rt; machine.may(&protocol, 63, Event::Evict));
     Ok(())
 }
-
-/// What `compile` writes for a text, into a sink that fails at these calls and takes ten bytes at a time.
-fn compile(
-    alloc: Global,
-    mode: &str,
-    text: &str,
-    fails: Vec<u64>,
-) -> Result<(Status, Vec<u8>), AllocError> {
-    let words = strings(alloc, &["compile", "--mode", mode])?;
-    let mut source = MemorySource::new(text.as_bytes().to_vec(alloc)?, 65536, Vec::new(alloc));
-    let mut sink = MemorySink::new(alloc, 65536, 10, fails)?;
-    let status = protogen(alloc, &words, &mut source, &mut sink);
-    Ok((status, sink.held().to_vec(alloc)?))
-}
-
-#[test]
-fn a_table_that_is_cut_is_a_write_fault(rt: HostRuntime) -> Result<(), Fail> {
-    let alloc = rt.alloc();
-    let mut fails = Vec::new(alloc);
-    fails.push(2)?;
-    let (status, written) = compile(alloc, "stall", MSI, fails)?;
-    assert_eq!(rt; status, Status::WriteFault);
-    assert_eq!(rt; written.as_slice(), "table MSI ".as_bytes());
-    let (status, written) = compile(alloc, "slow", MSI, Vec::new(alloc))?;
-    assert_eq!(rt; status, Status::Usage);
-    assert_eq!(rt; written.as_slice(), "usage\n".as_bytes());
-    Ok(())
-}
