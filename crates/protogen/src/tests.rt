@@ -9,10 +9,12 @@ use std::alloc::{AllocError, Global};
 use std::fmt::Write;
 use std::process::Abort;
 use std::test::Fail;
+use tables::{MI_DEFER, MI_STALL, MSI_DEFER, MSI_STALL};
 use texts::{MESI, MI, MIGRATORY, MOESI, MOSI, MSI, VISIBLE};
 
 mod histories;
 mod shapes;
+mod tables;
 mod texts;
 
 /// The most bytes that an input may have.
@@ -26,9 +28,9 @@ fn strings(alloc: Global, words: &[&str]) -> Result<Vec<String>, AllocError> {
     Ok(texts)
 }
 
-/// How a command ends on this input, and what it writes.
-fn run(alloc: Global, command: &str, input: Vec<u8>) -> Result<(Status, Vec<u8>), AllocError> {
-    let words = strings(alloc, &[command])?;
+/// How a command of these words ends on this input, and what it writes.
+fn run(alloc: Global, words: &[&str], input: Vec<u8>) -> Result<(Status, Vec<u8>), AllocError> {
+    let words = strings(alloc, words)?;
     let mut source = MemorySource::new(input, 65536, Vec::new(alloc));
     let mut sink = MemorySink::new(alloc, 4096, 4096, Vec::new(alloc))?;
     let status = protogen(alloc, &words, &mut source, &mut sink);
@@ -37,14 +39,14 @@ fn run(alloc: Global, command: &str, input: Vec<u8>) -> Result<(Status, Vec<u8>)
 
 /// How a check of this text ends, and what it writes.
 fn check(alloc: Global, text: Vec<u8>) -> Result<(Status, Vec<u8>), AllocError> {
-    run(alloc, "check", text)
+    run(alloc, &["check"], text)
 }
 
 /// How this script ends on the atomic machine of a text, and what it writes.
 fn atomic(alloc: Global, text: &str, script: &str) -> Result<(Status, Vec<u8>), AllocError> {
     let mut input = text.as_bytes().to_vec(alloc)?;
     input.extend_from_slice(script.as_bytes())?;
-    run(alloc, "atomic", input)
+    run(alloc, &["atomic"], input)
 }
 
 fn script_breaks(line: u32, rule: Rule) -> Status {
@@ -113,7 +115,13 @@ fn a_text_that_is_cut_lacks_its_end(rt: HostRuntime) -> Result<(), Fail> {
 #[test]
 fn other_words_read_nothing(rt: HostRuntime) -> Result<(), Fail> {
     let alloc = rt.alloc();
-    for words in [[].as_slice(), &["chek"], &["check", "check"], &["--help"]] {
+    for words in [
+        [].as_slice(),
+        &["chek"],
+        &["check", "check"],
+        &["--help"],
+        &["compile", "--mode", "slow"],
+    ] {
         let words = strings(alloc, words)?;
         let mut source = MemorySource::new(MSI.as_bytes().to_vec(alloc)?, 100, Vec::new(alloc));
         let mut sink = MemorySink::new(alloc, 4096, 4096, Vec::new(alloc))?;
@@ -394,5 +402,36 @@ fn a_machine_makes_its_steps(rt: HostRuntime) -> Result<(), Fail> {
     assert_eq!(rt; (loaded.state, loaded.dir), (1, 1));
     assert_eq!(rt; machine.access(&protocol, 0, Access::Load), 5);
     assert!(rt; machine.may(&protocol, 63, Event::Evict));
+    Ok(())
+}
+
+#[test]
+fn tables_are_those_worked_by_hand(rt: HostRuntime) -> Result<(), Fail> {
+    let alloc = rt.alloc();
+    for (text, mode, wanted) in [
+        (MI, "stall", MI_STALL),
+        (MI, "defer", MI_DEFER),
+        (MSI, "stall", MSI_STALL),
+        (MSI, "defer", MSI_DEFER),
+    ] {
+        let input = text.as_bytes().to_vec(alloc)?;
+        let (status, written) = run(alloc, &["compile", "--mode", mode], input)?;
+        assert_eq!(rt; status, Status::Done, "{wanted}");
+        assert_eq!(rt; written.as_slice(), wanted.as_bytes(), "{wanted}");
+    }
+    Ok(())
+}
+
+#[test]
+fn a_table_that_is_cut_is_a_write_fault(rt: HostRuntime) -> Result<(), Fail> {
+    let alloc = rt.alloc();
+    let words = strings(alloc, &["compile", "--mode", "stall"])?;
+    let mut source = MemorySource::new(MSI.as_bytes().to_vec(alloc)?, 100, Vec::new(alloc));
+    let mut fails = Vec::new(alloc);
+    fails.push(2)?;
+    let mut sink = MemorySink::new(alloc, 4096, 10, fails)?;
+    let status = protogen(alloc, &words, &mut source, &mut sink);
+    assert_eq!(rt; status, Status::WriteFault);
+    assert_eq!(rt; sink.held(), b"table MSI ".as_slice());
     Ok(())
 }
