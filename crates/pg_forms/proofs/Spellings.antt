@@ -5,6 +5,7 @@ use Rattle.std.proofs.lemmas.Option.{same_Some, cond_some}
 use Rattle.std.proofs.lemmas.Bool.{and_from}
 use Rattle.std.specs.Str.{bytes_eq}
 use Rattle.pg_perm.specs.Names.{is_name, is_state_name}
+use Rattle.pg_perm.specs.Words.{role_word, perm_word, request_word, event_word, dir_word, forward_word, who_word, left_word}
 use Rattle.pg_perm.specs.declared.kinds.Role.{Role}
 use Rattle.pg_perm.specs.declared.kinds.Role.TheVariants.{Out, Shared, Owner}
 use Rattle.pg_perm.specs.declared.kinds.Perm.{Perm}
@@ -30,7 +31,6 @@ use Rattle.pg_forms.specs.declared.line.RowShape.TheVariants as row
 use Rattle.pg_forms.specs.declared.line.CoreShape.{CoreShape}
 use Rattle.pg_forms.specs.declared.line.CoreShape.TheVariants.{Hit, Ask, Leave}
 use Rattle.pg_lines.specs.Lines.{first_rest}
-use Rattle.pg_forms.specs.Forms.{role_word, perm_word, request_word, event_word, dir_word, forward_word, who_word, left_word}
 use Rattle.pg_forms.specs.Forms.{shape_words, spelling, IsShapeOf, IsRowShape, IsWellNamed}
 use Rattle.std.specs.List.{list_all}
 use Rattle.pg_forms.specs.Pairs.{are_pairs, pairs_in, words_in, is_named_pair}

@@ -1,22 +1,10 @@
 use Rattle.std.specs.Prelude.{ℕ, ◌≢◌, true, false, List, [], ◌∷◌, codes, Some, None, IsTrue, IfSome}
 use Rattle.std.specs.List.{list_all}
 use Rattle.pg_perm.specs.Names.{is_name, is_state_name}
-use Rattle.pg_perm.specs.declared.kinds.Role.{Role}
-use Rattle.pg_perm.specs.declared.kinds.Role.TheVariants.{Out, Shared, Owner}
-use Rattle.pg_perm.specs.declared.kinds.Perm.{Perm}
-use Rattle.pg_perm.specs.declared.kinds.Perm.TheVariants as perm
-use Rattle.pg_perm.specs.declared.kinds.ReqClass.{ReqClass}
-use Rattle.pg_perm.specs.declared.kinds.ReqClass.TheVariants as asks
-use Rattle.pg_perm.specs.declared.kinds.DirKind.{DirKind}
-use Rattle.pg_perm.specs.declared.kinds.DirKind.TheVariants as knows
-use Rattle.pg_perm.specs.declared.kinds.FwdClass.{FwdClass}
-use Rattle.pg_perm.specs.declared.kinds.FwdClass.TheVariants as asked
-use Rattle.pg_perm.specs.declared.kinds.Who.{Who}
+use Rattle.pg_perm.specs.Words.{role_word, perm_word, request_word, event_word, dir_word, forward_word, who_word, left_word}
 use Rattle.pg_perm.specs.declared.kinds.Who.TheVariants as who
-use Rattle.pg_perm.specs.declared.kinds.Left.{Left}
-use Rattle.pg_perm.specs.declared.kinds.Left.TheVariants as left
 use Rattle.pg_perm.specs.declared.kinds.Event.{Event}
-use Rattle.pg_perm.specs.declared.kinds.Event.TheVariants.{Load, Store, Evict}
+use Rattle.pg_perm.specs.declared.kinds.Event.TheVariants.{Evict}
 use Rattle.pg_perm.specs.declared.draft.MsgClass.TheVariants.{Request, Forward, Reply}
 use Rattle.pg_forms.specs.Pairs.{words_in, is_named_pair}
 use Rattle.pg_forms.specs.declared.line.Line.{Line}
@@ -25,48 +13,6 @@ use Rattle.pg_forms.specs.declared.line.RowShape.{RowShape}
 use Rattle.pg_forms.specs.declared.line.RowShape.TheVariants as row
 use Rattle.pg_forms.specs.declared.line.CoreShape.{CoreShape}
 use Rattle.pg_forms.specs.declared.line.CoreShape.TheVariants.{Hit, Ask, Leave}
-
-abbrev pub role_word : Role → List ℕ
-role_word Out = codes "out"
-role_word Shared = codes "shared"
-role_word Owner = codes "owner"
-
-abbrev pub perm_word : Perm → List ℕ
-perm_word perm.None = codes "none"
-perm_word perm.Read = codes "read"
-perm_word perm.Write = codes "write"
-
-abbrev pub request_word : ReqClass → List ℕ
-request_word asks.Read = codes "read"
-request_word asks.Write = codes "write"
-request_word asks.Clean = codes "clean"
-request_word asks.Dirty = codes "dirty"
-
-abbrev pub event_word : Event → List ℕ
-event_word Load = codes "load"
-event_word Store = codes "store"
-event_word Evict = codes "evict"
-
-abbrev pub dir_word : DirKind → List ℕ
-dir_word knows.Idle = codes "idle"
-dir_word knows.Shared = codes "shared"
-dir_word knows.Owned = codes "owned"
-dir_word knows.Mixed = codes "mixed"
-
-abbrev pub forward_word : FwdClass → List ℕ
-forward_word asked.Inv = codes "inv"
-forward_word asked.Share = codes "share"
-forward_word asked.Keep = codes "keep"
-forward_word asked.Drop = codes "drop"
-
-abbrev pub who_word : Who → List ℕ
-who_word who.Other = codes "other"
-who_word who.Sharer = codes "sharer"
-who_word who.Owner = codes "owner"
-
-abbrev pub left_word : Left → List ℕ
-left_word left.Last = codes "last"
-left_word left.More = codes "more"
 
 -- the words of a line behind its event
 abbrev pub shape_words : CoreShape → List (List ℕ)

@@ -2,14 +2,9 @@
 use Rattle.std.specs.Prelude.{ℕ, ◌+◌, Bool, true, false, if◌then◌else◌, List, [], ◌∷◌, ◌++◌, codes}
 use Rattle.std.specs.Fmt.{decimal}
 use Rattle.pg_perm.specs.declared.kinds.Event.{Event}
-use Rattle.pg_perm.specs.declared.kinds.Event.TheVariants as event
 use Rattle.pg_perm.specs.declared.step.Step.{Step}
 use Rattle.pg_perm.specs.declared.step.Step.TheVariants.{Txn, Stale, Load, Store}
-
-abbrev pub event_word : Event → List ℕ
-event_word event.Load = codes "load"
-event_word event.Store = codes "store"
-event_word event.Evict = codes "evict"
+use Rattle.pg_perm.specs.Words.{event_word}
 
 abbrev pub txn_line : ℕ → ℕ → Event → List ℕ
 txn_line k c e = codes "txn " ++ decimal k ++ codes " c" ++ decimal c ++ codes " " ++ event_word e ++ codes "\n"

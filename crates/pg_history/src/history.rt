@@ -2,18 +2,8 @@ ghost use Rattle.std.specs.Prelude.{◌≡◌, ◌++◌, ◌<◌, IfOk, length};
 ghost use Rattle.std.specs.String.{string_bytes};
 ghost use Rattle.pg_history.specs.HistoryText as text;
 
-use pg_perm::{Event, Step, Steps};
+use pg_perm::{Event, Step, Steps, event_word};
 use std::alloc::{AllocError, Global};
-
-fn event_word(event: Event) -> &'static str
-    ensures { result.now ≡ text.event_word event }
-{
-    match event {
-        Event::Load => "load",
-        Event::Store => "store",
-        Event::Evict => "evict",
-    }
-}
 
 fn is_entry(step: Step) -> bool
     ensures { result ≡ text.is_entry step }

@@ -4,3 +4,4 @@ pub mod Steps
 pub mod Places
 pub mod Weaker
 pub mod Written
+pub mod Joining

@@ -36,3 +36,12 @@ fn lines_and_words_are_cut(rt: HostRuntime) -> Result<(), Fail> {
     }
     Ok(())
 }
+
+#[test]
+fn lines_are_put(rt: HostRuntime) -> Result<(), Fail> {
+    let mut text = String::from_str(rt.alloc(), "a\n")?;
+    put_line(rt.alloc(), &mut text, &["bc", "", "d"])?;
+    put_line(rt.alloc(), &mut text, &[])?;
+    assert_eq!(rt; text.as_str(), "a\nbc  d\n\n");
+    Ok(())
+}

@@ -2,3 +2,4 @@ pub mod Names
 pub mod Rules
 pub mod Classes
 pub mod Drafts
+pub mod Words

@@ -40,3 +40,54 @@ fn lists(rt: HostRuntime) -> Result<(), Fail> {
     assert_eq!(rt; Rule::C5.name(), "C5");
     Ok(())
 }
+
+#[test]
+fn kinds_have_words(rt: HostRuntime) {
+    assert_eq!(rt; role_word(Role::Out), "out");
+    assert_eq!(rt; perm_word(Perm::Write), "write");
+    assert_eq!(rt; request_word(ReqClass::Dirty), "dirty");
+    assert_eq!(rt; event_word(Event::Evict), "evict");
+    assert_eq!(rt; dir_word(DirKind::Mixed), "mixed");
+    assert_eq!(rt; forward_word(FwdClass::Inv), "inv");
+    assert_eq!(rt; who_word(Who::Sharer), "sharer");
+    assert_eq!(rt; left_word(Left::More), "more");
+}
+
+#[test]
+fn numbers_have_names(rt: HostRuntime) -> Result<(), Fail> {
+    let alloc = rt.alloc();
+    let mut draft = Draft {
+        line: 1,
+        name: Word::new(b"P"),
+        caches: Sequence::new(alloc),
+        dirs: Sequence::new(alloc),
+        messages: Sequence::new(alloc),
+        cores: Sequence::new(alloc),
+        takes: Sequence::new(alloc),
+        rows: Sequence::new(alloc),
+    };
+    draft.caches.push(CacheLine {
+        line: 2,
+        name: Word::new(b"M"),
+        role: Role::Owner,
+        perm: Perm::Write,
+        clean: false,
+    })?;
+    draft.dirs.push(DirLine {
+        line: 3,
+        name: Word::new(b"I"),
+        kind: DirKind::Idle,
+        beside: Sequence::new(alloc),
+    })?;
+    draft.messages.push(MsgLine {
+        line: 4,
+        name: Word::new(b"GetM"),
+        class: MsgClass::Request(ReqClass::Write),
+    })?;
+    for (number, cache, dir, message) in [(0, "M", "I", "GetM"), (1, "", "", "")] {
+        assert_eq!(rt; cache_name(&draft, number), cache);
+        assert_eq!(rt; dir_name(&draft, number), dir);
+        assert_eq!(rt; message_name(&draft, number), message);
+    }
+    Ok(())
+}

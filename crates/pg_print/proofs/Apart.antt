@@ -6,6 +6,7 @@ use Rattle.pg_perm.specs.declared.kinds.Event.TheVariants.{Store}
 use Rattle.pg_perm.specs.declared.kinds.Mode.{Mode}
 use Rattle.pg_perm.specs.declared.draft.Draft.{Draft}
 use Rattle.pg_perm.specs.Drafts.{IsWellFormed}
+use Rattle.pg_perm.specs.Words.{cache_name, dir_name}
 use Rattle.pg_shape.specs.Shaped.{IsShaped}
 use Rattle.pg_table.specs.declared.cache.Desc.{Desc}
 use Rattle.pg_table.specs.declared.cache.Desc.TheVariants.{Stable, Ask, Leave}
@@ -19,7 +20,7 @@ use Rattle.pg_table.specs.Descriptors.{out_state, finals, descs}
 use Rattle.pg_table.specs.Home.{home_descs}
 use Rattle.pg_table.specs.Sound.{is_among}
 use Rattle.pg_table.specs.Tables.{same_dir_desc}
-use Rattle.pg_print.specs.Names.{cache_name, dir_name, first_name, join, phase_word, tag_word, state_name, home_name}
+use Rattle.pg_print.specs.Names.{first_name, join, phase_word, tag_word, state_name, home_name}
 use Rattle.pg_print.proofs.Lacking.{lacks, lacks_apart, same_around}
 use Rattle.pg_print.proofs.Endings.{letters, ending_begins, same_ending}
 use Rattle.pg_print.proofs.Written.{cache_lacks, dir_lacks, same_cache, same_dir}

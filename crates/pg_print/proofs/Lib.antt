@@ -1,4 +1,3 @@
-pub mod Joining
 pub mod Lacking
 pub mod Endings
 pub mod Written

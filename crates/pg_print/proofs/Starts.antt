@@ -18,6 +18,7 @@ use Rattle.pg_perm.specs.declared.draft.Pair.{Pair}
 use Rattle.pg_perm.specs.declared.draft.ReplyName.{ReplyName}
 use Rattle.pg_perm.specs.declared.draft.ReplyName.TheVariants as reply
 use Rattle.pg_perm.specs.Drafts.{has_cache, has_core_form, has_core, has_take, has_row, IsWellFormed}
+use Rattle.pg_perm.specs.Words.{cache_name}
 use Rattle.pg_terms.specs.Terms.{same_event, is_out, is_shared, is_owner, is_none_perm, is_read_perm, is_write_perm, is_read_owner, is_write_owner, cache_is, out, shared, core_row}
 use Rattle.pg_terms.specs.Due.{same_reply}
 use Rattle.pg_shape.specs.CoreRules.{is_dirty_writer}
@@ -27,7 +28,7 @@ use Rattle.pg_shape.proofs.Bools.{one_of}
 use Rattle.pg_shape.proofs.Searches.{not_both, find_get, position_get, map_or_get, all_at}
 use Rattle.pg_standing.proofs.Facts.{out_no_writer}
 use Rattle.pg_table.specs.Descriptors.{out_state, finals_in, finals, states}
-use Rattle.pg_print.specs.Names.{first_name, cache_name}
+use Rattle.pg_print.specs.Names.{first_name}
 use Rattle.pg_print.proofs.Known.{any_both, any_filter, number_below, is_start}
 
 -- The states in which a store asks

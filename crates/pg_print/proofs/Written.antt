@@ -9,10 +9,10 @@ use Rattle.pg_perm.proofs.Booleans.{both}
 use Rattle.pg_perm.specs.declared.draft.Draft.{Draft}
 use Rattle.pg_perm.specs.Names.{is_letter, is_digit, is_underscore, is_name_byte, is_name, is_state_name}
 use Rattle.pg_perm.specs.Drafts.{cache_names, dir_names, message_names, are_distinct, IsWellFormed}
+use Rattle.pg_perm.specs.Words.{name_of, cache_name, dir_name}
 use Rattle.pg_lines.proofs.Weaker.{all_weaker}
 use Rattle.pg_shape.proofs.Bools.{and_both, true_not}
 use Rattle.pg_shape.proofs.Searches.{not_both, all_at, any_at, get_below}
-use Rattle.pg_print.specs.Names.{name_of, cache_name, dir_name}
 use Rattle.pg_print.proofs.Lacking.{lacks}
 
 -- Bytes

@@ -1,7 +1,7 @@
 -- The names of the states of the controllers.
-use Rattle.std.specs.Prelude.{ℕ, Bool, ◌&&◌, ◌==◌, if◌then◌else◌, List, [], ◌∷◌, ◌++◌, codes, length, slice_get, unwrap_or}
+use Rattle.std.specs.Prelude.{ℕ, Bool, ◌&&◌, ◌==◌, if◌then◌else◌, List, [], ◌∷◌, ◌++◌, codes, length}
 use Rattle.pg_perm.specs.declared.draft.Draft.{Draft}
-use Rattle.pg_perm.specs.Drafts.{cache_names, dir_names, message_names}
+use Rattle.pg_perm.specs.Words.{cache_name, dir_name}
 use Rattle.pg_table.specs.declared.cache.Desc.{Desc}
 use Rattle.pg_table.specs.declared.cache.Desc.TheVariants.{Stable, Ask, Leave}
 use Rattle.pg_table.specs.declared.cache.Phase.{Phase}
@@ -11,19 +11,6 @@ use Rattle.pg_table.specs.declared.cache.Tag.TheVariants.{Plain, Kept, Gave, Gon
 use Rattle.pg_table.specs.declared.home.DirDesc.{DirDesc}
 use Rattle.pg_table.specs.declared.home.DirDesc.TheVariants.{State, Busy}
 use Rattle.pg_table.specs.Descriptors.{out_state, finals}
-
--- the name with this number; a number past the last has no name
-abbrev pub name_of : List (List ℕ) → ℕ → List ℕ
-name_of names n = unwrap_or (slice_get names n) []
-
-abbrev pub cache_name : Draft → ℕ → List ℕ
-cache_name d s = name_of (cache_names d) s
-
-abbrev pub dir_name : Draft → ℕ → List ℕ
-dir_name d n = name_of (dir_names d) n
-
-abbrev pub message_name : Draft → ℕ → List ℕ
-message_name d m = name_of (message_names d) m
 
 -- the name of the first of these states, if there is one
 abbrev pub first_name : Draft → List ℕ → List ℕ

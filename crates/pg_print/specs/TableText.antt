@@ -2,6 +2,7 @@
 use Rattle.std.specs.Prelude.{ℕ, List, [], ◌∷◌, ◌++◌, map, codes}
 use Rattle.std.specs.List.{flat_map}
 use Rattle.pg_perm.specs.declared.draft.Draft.{Draft}
+use Rattle.pg_perm.specs.Words.{name_of}
 use Rattle.pg_lines.specs.Lines.{text_of}
 use Rattle.pg_table.specs.declared.cache.Input.{Input}
 use Rattle.pg_table.specs.declared.cache.Row.{Row}
@@ -10,7 +11,7 @@ use Rattle.pg_table.specs.declared.home.DirRow.{DirRow}
 use Rattle.pg_table.specs.declared.table.TableState.{TableState}
 use Rattle.pg_table.specs.declared.dir_table.DirTableState.{DirTableState}
 use Rattle.pg_table.specs.Tables.{Parts}
-use Rattle.pg_print.specs.Names.{name_of, state_name, home_name}
+use Rattle.pg_print.specs.Names.{state_name, home_name}
 use Rattle.pg_print.specs.Words.{mode_word, input_word, act_words, home_input_word, home_act_words}
 
 -- a line for each name, behind a word

@@ -1,16 +1,11 @@
 -- The words for inputs and acts.
 use Rattle.std.specs.Prelude.{ℕ, List, [], ◌∷◌, ◌++◌, codes}
 use Rattle.std.specs.Option.{option_map_or}
-use Rattle.pg_perm.specs.declared.kinds.Event.{Event}
-use Rattle.pg_perm.specs.declared.kinds.Event.TheVariants.{Load, Store, Evict}
 use Rattle.pg_perm.specs.declared.kinds.Mode.{Mode}
 use Rattle.pg_perm.specs.declared.kinds.Mode.TheVariants as mode
-use Rattle.pg_perm.specs.declared.kinds.Who.{Who}
-use Rattle.pg_perm.specs.declared.kinds.Who.TheVariants.{Other, Sharer, Owner}
-use Rattle.pg_perm.specs.declared.kinds.Left.{Left}
-use Rattle.pg_perm.specs.declared.kinds.Left.TheVariants.{Last, More}
 use Rattle.pg_perm.specs.declared.kinds.ReqClass.{ReqClass}
 use Rattle.pg_perm.specs.declared.draft.Draft.{Draft}
+use Rattle.pg_perm.specs.Words.{message_name, event_word, who_word, left_word}
 use Rattle.pg_terms.specs.Terms.{request_of}
 use Rattle.pg_table.specs.declared.cache.Input.{Input}
 use Rattle.pg_table.specs.declared.cache.Input.TheVariants as at
@@ -20,18 +15,12 @@ use Rattle.pg_table.specs.declared.home.DirInput.{DirInput}
 use Rattle.pg_table.specs.declared.home.DirInput.TheVariants as met
 use Rattle.pg_table.specs.declared.home.DirAct.{DirAct}
 use Rattle.pg_table.specs.declared.home.DirAct.TheVariants as does
-use Rattle.pg_print.specs.Names.{message_name}
 
 abbrev pub mode_word : Mode → List ℕ
 mode_word mode.Stall = codes "stall"
 mode_word mode.Defer = codes "defer"
 
 -- Cache controllers
-
-abbrev pub event_word : Event → List ℕ
-event_word Load = codes "load"
-event_word Store = codes "store"
-event_word Evict = codes "evict"
 
 abbrev pub input_word : Draft → Input → List ℕ
 input_word d (at.Core event) = event_word event
@@ -64,15 +53,6 @@ act_words d act.Stall = codes "stall" ∷ []
 -- the name of the first request of a class
 abbrev pub request_name : Draft → ReqClass → List ℕ
 request_name d class = option_map_or (message_name d) (request_of d class) []
-
-abbrev pub who_word : Who → List ℕ
-who_word Other = codes "other"
-who_word Sharer = codes "sharer"
-who_word Owner = codes "owner"
-
-abbrev pub left_word : Left → List ℕ
-left_word Last = codes "last"
-left_word More = codes "more"
 
 abbrev pub home_input_word : Draft → DirInput → List ℕ
 home_input_word d (met.Ask class who) = request_name d class ++ codes "." ++ who_word who

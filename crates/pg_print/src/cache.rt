@@ -5,9 +5,10 @@ ghost use Rattle.std.specs.String.{string_bytes};
 ghost use Rattle.pg_lines.specs.Lines.{line_text, text_of};
 ghost use Rattle.pg_print.specs.TableText as print;
 
-use crate::line::{name_of, put_line, put_names};
+use crate::line::{name_of, put_names};
 use crate::name::state_name;
 use crate::word::{input_word, put_acts};
+use pg_lines::put_line;
 use pg_perm::Draft;
 use pg_table::{Input, Row, TableState};
 use std::alloc::{AllocError, Global};

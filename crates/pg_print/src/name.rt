@@ -1,46 +1,17 @@
 //! The names of the states of the controllers.
 ghost use Rattle.std.specs.Prelude.{◌≡◌, IfOk};
 ghost use Rattle.std.specs.String.{string_bytes};
+ghost use Rattle.pg_perm.specs.Words as word;
 ghost use Rattle.pg_table.specs.Descriptors.{out_state, finals, finals_in};
 ghost use Rattle.pg_print.specs.Names as name;
 
-use pg_perm::{CoreForm, Draft, Event};
+use pg_perm::{CoreForm, Draft, Event, cache_name, dir_name};
 use pg_table::{Desc, DirDesc, Phase, Tag};
 use pg_terms::{core_row, out};
 use std::alloc::{AllocError, Global};
 
-/// The name of a cache state.
-fn cache_name(draft: &Draft, number: usize) -> &str
-    ensures { result.now ≡ name.cache_name draft.now number }
-{
-    match draft.caches.get(number) {
-        Some(cache) => cache.name.as_str(),
-        None => "",
-    }
-}
-
-/// The name of a directory state.
-fn dir_name(draft: &Draft, number: usize) -> &str
-    ensures { result.now ≡ name.dir_name draft.now number }
-{
-    match draft.dirs.get(number) {
-        Some(dir) => dir.name.as_str(),
-        None => "",
-    }
-}
-
-/// The name of a request, a forward or a reply.
-pub fn message_name(draft: &Draft, number: usize) -> &str
-    ensures { result.now ≡ name.message_name draft.now number }
-{
-    match draft.messages.get(number) {
-        Some(message) => message.name.as_str(),
-        None => "",
-    }
-}
-
 fn out_name(draft: &Draft) -> &str
-    ensures { result.now ≡ name.cache_name draft.now (out_state draft.now) }
+    ensures { result.now ≡ word.cache_name draft.now (out_state draft.now) }
 {
     cache_name(draft, out(draft).unwrap_or(0))
 }

@@ -6,8 +6,8 @@ ghost use Rattle.pg_print.specs.TableText as print;
 
 use crate::cache::put_cache;
 use crate::home::put_home;
-use crate::line::put_line;
 use crate::word::mode_word;
+use pg_lines::put_line;
 use pg_perm::{Draft, Mode};
 use pg_table::{DirTable, Table, Tables};
 use std::alloc::{AllocError, Global};

@@ -2,11 +2,10 @@
 ghost use Rattle.std.specs.Prelude.{◌≡◌, ◌++◌, map, codes, IfOk};
 ghost use Rattle.std.specs.List.{flat_map};
 ghost use Rattle.std.specs.String.{string_bytes};
-ghost use Rattle.pg_print.specs.Names as name;
+ghost use Rattle.pg_perm.specs.Words as perm;
 ghost use Rattle.pg_print.specs.Words as word;
 
-use crate::name::message_name;
-use pg_perm::{Draft, Event, Left, Mode, ReqClass, Who};
+use pg_perm::{Draft, Left, Mode, ReqClass, Who, event_word, left_word, message_name, who_word};
 use pg_table::{Act, DirAct, DirInput, Input};
 use pg_terms::request_of;
 use std::alloc::{AllocError, Global};
@@ -20,19 +19,9 @@ pub fn mode_word(mode: Mode) -> &'static str
     }
 }
 
-fn event_word(event: Event) -> &'static str
-    ensures { result.now ≡ word.event_word event }
-{
-    match event {
-        Event::Load => "load",
-        Event::Store => "store",
-        Event::Evict => "evict",
-    }
-}
-
 /// The name of a message, and what stands behind it.
 fn message_with(alloc: Global, draft: &Draft, message: u8, end: &str) -> Result<String, AllocError>
-    ensures { IfOk result (λ text. string_bytes text ≡ name.message_name draft.now message ++ end.now) }
+    ensures { IfOk result (λ text. string_bytes text ≡ perm.message_name draft.now message ++ end.now) }
 {
     let mut text = String::from_str(alloc, message_name(draft, usize::from(message)))?;
     text.push_str(end)?;
@@ -111,25 +100,6 @@ fn request_name(draft: &Draft, class: ReqClass) -> &str
     }
 }
 
-fn who_word(who: Who) -> &'static str
-    ensures { result.now ≡ word.who_word who }
-{
-    match who {
-        Who::Other => "other",
-        Who::Sharer => "sharer",
-        Who::Owner => "owner",
-    }
-}
-
-fn left_word(left: Left) -> &'static str
-    ensures { result.now ≡ word.left_word left }
-{
-    match left {
-        Left::Last => "last",
-        Left::More => "more",
-    }
-}
-
 /// Two words with a dot between them.
 fn with_dot(alloc: Global, first: &str, last: &str) -> Result<String, AllocError>
     ensures { IfOk result (λ text. string_bytes text ≡ first.now ++ codes "." ++ last.now) }
@@ -141,7 +111,7 @@ fn with_dot(alloc: Global, first: &str, last: &str) -> Result<String, AllocError
 }
 
 fn evict_word(alloc: Global, who: Who, left: Left) -> Result<String, AllocError>
-    ensures { IfOk result (λ text. string_bytes text ≡ codes "evict." ++ word.who_word who ++ codes "." ++ word.left_word left) }
+    ensures { IfOk result (λ text. string_bytes text ≡ codes "evict." ++ perm.who_word who ++ codes "." ++ perm.left_word left) }
 {
     let mut text = String::from_str(alloc, "evict.")?;
     text.push_str(who_word(who))?;

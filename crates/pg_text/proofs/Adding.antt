@@ -23,12 +23,13 @@ use Rattle.pg_perm.specs.declared.draft.RowLine.{RowLine}
 use Rattle.pg_perm.specs.declared.draft.RowForm.{RowForm}
 use Rattle.pg_perm.specs.declared.draft.RowForm.TheVariants as rows
 use Rattle.pg_perm.specs.Drafts.{taken_names, are_distinct, has_cache, has_core, has_take, has_row, pair_count}
+use Rattle.pg_perm.specs.Words.{cache_name}
 use Rattle.pg_forms.specs.declared.line.Line.TheVariants as line
 use Rattle.pg_forms.specs.Forms.{spelling, shape_words}
 use Rattle.pg_forms.specs.Pairs.{words_in}
 use Rattle.pg_forms.specs.Kinds.{kind_of, is_protocol, is_end}
 use Rattle.pg_text.specs.Numbering.{put_dir, put_core, put_take, put_row}
-use Rattle.pg_text.specs.Printing.{numbered, cache_name, pair_words, core_shape, cache_line_of, dir_line_of, message_line_of, core_line_of, take_line_of, row_line_of}
+use Rattle.pg_text.specs.Printing.{numbered, pair_words, core_shape, cache_line_of, dir_line_of, message_line_of, core_line_of, take_line_of, row_line_of}
 use Rattle.pg_text.proofs.Parts.{Known}
 use Rattle.pg_text.proofs.NumbersAgain.{KnowsCaches, KnowsDirs, KnowsMessages, core_again, states_again, take_again, row_again}
 use Rattle.pg_text.proofs.WellNamed.{dir_line_named, message_line_named, core_line_named, take_line_named, row_line_named}

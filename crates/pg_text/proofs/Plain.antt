@@ -7,6 +7,7 @@ use Rattle.std.proofs.lemmas.Bool.Decides.{nat_tests}
 use Rattle.pg_lines.specs.Lines.{is_plain}
 use Rattle.pg_lines.proofs.Weaker.{all_weaker}
 use Rattle.pg_perm.specs.Names.{is_letter, is_digit, is_underscore, is_name_byte, is_name, is_state_name}
+use Rattle.pg_perm.specs.Words.{role_word, perm_word, request_word, event_word, dir_word, forward_word, who_word, left_word}
 use Rattle.pg_perm.proofs.Ascii.{length-name}
 use Rattle.pg_perm.specs.declared.kinds.Role.{Role}
 use Rattle.pg_perm.specs.declared.kinds.Role.TheVariants.{Out, Shared, Owner}
@@ -31,7 +32,7 @@ use Rattle.pg_forms.specs.declared.line.Line.TheVariants.{Protocol, Cache, Dir, 
 use Rattle.pg_forms.specs.declared.line.RowShape.TheVariants as row
 use Rattle.pg_forms.specs.declared.line.CoreShape.{CoreShape}
 use Rattle.pg_forms.specs.declared.line.CoreShape.TheVariants.{Hit, Ask, Leave}
-use Rattle.pg_forms.specs.Forms.{role_word, perm_word, request_word, event_word, dir_word, forward_word, who_word, left_word, shape_words, spelling, IsShapeOf, IsWellNamed}
+use Rattle.pg_forms.specs.Forms.{shape_words, spelling, IsShapeOf, IsWellNamed}
 
 -- a word that may be written
 abbrev pub is_word : List ℕ → Bool

@@ -26,6 +26,7 @@ use Rattle.pg_perm.specs.declared.draft.MsgClass.TheVariants.{Request, Forward, 
 use Rattle.pg_perm.specs.declared.kinds.Event.{Event}
 use Rattle.pg_perm.specs.Classes.{is_request, is_forward, is_reply}
 use Rattle.pg_perm.specs.Drafts.{cache_names, dir_names, message_names}
+use Rattle.pg_perm.specs.Words.{name_of, cache_name, message_name}
 use Rattle.pg_forms.specs.declared.line.Kind.{Kind}
 use Rattle.pg_forms.specs.declared.line.Line.{Line}
 use Rattle.pg_forms.specs.declared.line.Line.TheVariants.{Protocol, Cache, Dir, Message, Core, Take, Row, End}
@@ -40,7 +41,7 @@ use Rattle.pg_text.specs.Numbering.{cache_number, dir_number, message_number, re
 use Rattle.pg_text.specs.Numbering.{take_reply, take_of, action_by_class, action_of, row_form, row_of, with_line}
 use Rattle.pg_text.specs.FormFaults.{Above, nothing, no_draft, is_out_of_order, ends}
 use Rattle.pg_text.specs.Texts.{judge, read_on, read_lines, reading}
-use Rattle.pg_text.specs.Printing.{name_of, cache_name, message_name, reply_word, pair_words, core_shape, action_word, row_shape_of}
+use Rattle.pg_text.specs.Printing.{reply_word, pair_words, core_shape, action_word, row_shape_of}
 use Rattle.pg_text.specs.Printing.{cache_line_of, dir_line_of, message_line_of, core_line_of, take_line_of, row_line_of, lines_in}
 use Rattle.pg_forms.proofs.Options.{then_some, told, mapped, same_ok}
 use Rattle.pg_forms.proofs.Spellings.{found}

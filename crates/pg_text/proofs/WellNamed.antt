@@ -28,9 +28,10 @@ use Rattle.pg_perm.specs.declared.draft.Action.{Action}
 use Rattle.pg_perm.specs.declared.draft.Action.TheVariants as action
 use Rattle.pg_perm.specs.Classes.{is_request, is_forward, is_reply}
 use Rattle.pg_perm.specs.Drafts.{cache_names, dir_names, message_names, has_cache, has_dir, has_message, has_reply_name, has_pair, has_core_form, has_core, has_take, has_action, has_row_form, has_row}
+use Rattle.pg_perm.specs.Words.{cache_name, dir_name, message_name}
 use Rattle.pg_forms.specs.Forms.{IsShapeOf, IsRowShape, IsWellNamed}
 use Rattle.pg_forms.specs.Pairs.{is_named_pair}
-use Rattle.pg_text.specs.Printing.{cache_name, dir_name, message_name, reply_word, pair_words, core_shape, action_word, row_shape_of, dir_line_of, message_line_of, core_line_of, take_line_of, row_line_of}
+use Rattle.pg_text.specs.Printing.{reply_word, pair_words, core_shape, action_word, row_shape_of, dir_line_of, message_line_of, core_line_of, take_line_of, row_line_of}
 use Rattle.pg_text.proofs.Parts.{NamesAre, are_free}
 use Rattle.pg_text.proofs.NumbersAgain.{name_passes, cache_within, dir_within, message_within, message_free, UsesDeclared, uses_declared, take_uses, row_uses}
 

@@ -1,5 +1,5 @@
 -- The text of a draft.
-use Rattle.std.specs.Prelude.{ℕ, ◌+◌, List, [], ◌∷◌, ◌++◌, map, length, codes, slice_get, unwrap_or}
+use Rattle.std.specs.Prelude.{ℕ, ◌+◌, List, [], ◌∷◌, ◌++◌, map, length, codes}
 use Rattle.std.specs.Option.{option_map}
 use Rattle.pg_perm.specs.declared.draft.Draft.{Draft}
 use Rattle.pg_perm.specs.declared.draft.CacheLine.{CacheLine}
@@ -17,7 +17,7 @@ use Rattle.pg_perm.specs.declared.draft.RowForm.{RowForm}
 use Rattle.pg_perm.specs.declared.draft.RowForm.TheVariants as rows
 use Rattle.pg_perm.specs.declared.draft.Action.{Action}
 use Rattle.pg_perm.specs.declared.draft.Action.TheVariants as action
-use Rattle.pg_perm.specs.Drafts.{cache_names, dir_names, message_names}
+use Rattle.pg_perm.specs.Words.{cache_name, dir_name, message_name}
 use Rattle.pg_lines.specs.Lines.{text_of}
 use Rattle.pg_forms.specs.declared.line.Line.{Line}
 use Rattle.pg_forms.specs.declared.line.Line.TheVariants.{Protocol, Cache, Dir, Message, Core, Take, Row, End}
@@ -26,19 +26,6 @@ use Rattle.pg_forms.specs.declared.line.CoreShape.TheVariants.{Hit, Ask, Leave}
 use Rattle.pg_forms.specs.declared.line.RowShape.{RowShape}
 use Rattle.pg_forms.specs.declared.line.RowShape.TheVariants as row
 use Rattle.pg_forms.specs.Forms.{spelling}
-
--- the name with this number; a number past the last has no name
-abbrev pub name_of : List (List ℕ) → ℕ → List ℕ
-name_of names n = unwrap_or (slice_get names n) []
-
-abbrev pub cache_name : Draft → ℕ → List ℕ
-cache_name d n = name_of (cache_names d) n
-
-abbrev pub dir_name : Draft → ℕ → List ℕ
-dir_name d n = name_of (dir_names d) n
-
-abbrev pub message_name : Draft → ℕ → List ℕ
-message_name d n = name_of (message_names d) n
 
 abbrev pub reply_word : Draft → ReplyName → List ℕ
 reply_word d reply.AckCount = codes "AckCount"

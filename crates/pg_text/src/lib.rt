@@ -3,7 +3,6 @@
 
 mod drafting;
 mod error;
-mod keywords;
 mod laws;
 mod printer;
 mod reader;

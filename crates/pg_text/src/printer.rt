@@ -1,24 +1,15 @@
 ghost use Rattle.std.specs.Prelude.{◌≡◌, map, IfOk, Ok, length, ◌++◌, ◌≤◌};
 ghost use Rattle.std.specs.String.{string_bytes};
-ghost use Rattle.pg_lines.specs.Lines.{line_text, text_of};
+ghost use Rattle.pg_lines.specs.Lines.{text_of};
 ghost use Rattle.pg_perm.specs.Drafts.{IsWellFormed};
 ghost use Rattle.pg_forms.specs.Forms.{spelling};
 ghost use Rattle.pg_text.specs.Printing.{printed, renumbered};
 ghost use Rattle.pg_text.specs.Texts.{reading};
 
 use crate::spelled::Spelled;
+use pg_lines::put_line;
 use pg_perm::{Draft, Sequence};
 use std::alloc::{AllocError, Global};
-
-/// Puts a line of words last.
-fn put_line(alloc: Global, text: &mut String, words: &[&str]) -> Result<(), AllocError>
-    ensures { IfOk result (λ _. string_bytes text.new ≡ string_bytes text.old ++ line_text (map (λ w. w.now) words.now)) }
-{
-    let line = words.join(alloc, " ")?;
-    text.push_str(line.as_str())?;
-    text.push_str("\n")?;
-    Ok(())
-}
 
 /// Puts lines of a draft last.
 fn put_lines<T: Spelled>(

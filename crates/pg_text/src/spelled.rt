@@ -1,55 +1,24 @@
 ghost use Rattle.std.specs.Prelude.{◌≡◌, map, IfOk, [], ◌∷◌, ◌++◌};
 ghost use Rattle.pg_perm.specs.declared.draft.Draft.{Draft};
+ghost use Rattle.pg_perm.specs.Words as word;
 ghost use Rattle.pg_forms.specs.declared.line.Line.{Line};
 ghost use Rattle.pg_forms.specs.Forms.{spelling, shape_words};
 ghost use Rattle.pg_forms.specs.Pairs.{words_in};
 ghost use Rattle.pg_text.specs.Printing as text;
 
-use crate::keywords::{
-    dir_word, event_word, forward_word, left_word, perm_word, request_word, role_word, who_word,
-};
 use pg_perm::{
     Action, CacheLine, CoreForm, CoreLine, DirLine, Draft, MsgClass, MsgLine, Pair, ReplyName,
-    RowForm, RowLine, TakeLine,
+    RowForm, RowLine, TakeLine, cache_name, dir_name, dir_word, event_word, forward_word,
+    left_word, message_name, perm_word, request_word, role_word, who_word,
 };
 use std::alloc::AllocError;
-
-/// The name of a cache state.
-fn cache_name(draft: &Draft, number: u8) -> &str
-    ensures { result.now ≡ text.cache_name draft.now number }
-{
-    match draft.caches.get(usize::from(number)) {
-        Some(cache) => cache.name.as_str(),
-        None => "",
-    }
-}
-
-/// The name of a directory state.
-fn dir_name(draft: &Draft, number: u8) -> &str
-    ensures { result.now ≡ text.dir_name draft.now number }
-{
-    match draft.dirs.get(usize::from(number)) {
-        Some(dir) => dir.name.as_str(),
-        None => "",
-    }
-}
-
-/// The name of a request, a forward or a reply.
-fn message_name(draft: &Draft, number: u8) -> &str
-    ensures { result.now ≡ text.message_name draft.now number }
-{
-    match draft.messages.get(usize::from(number)) {
-        Some(message) => message.name.as_str(),
-        None => "",
-    }
-}
 
 fn reply_word(draft: &Draft, reply: ReplyName) -> &str
     ensures { result.now ≡ text.reply_word draft.now reply }
 {
     match reply {
         ReplyName::AckCount => "AckCount",
-        ReplyName::Reply(number) => message_name(draft, number),
+        ReplyName::Reply(number) => message_name(draft, usize::from(number)),
     }
 }
 
@@ -57,8 +26,8 @@ fn action_word(draft: &Draft, action: Action) -> &str
     ensures { result.now ≡ text.action_word draft.now action }
 {
     match action {
-        Action::Reply(number) => message_name(draft, number),
-        Action::Forward(number) => message_name(draft, number),
+        Action::Reply(number) => message_name(draft, usize::from(number)),
+        Action::Forward(number) => message_name(draft, usize::from(number)),
         Action::Count => "count",
     }
 }
@@ -99,10 +68,10 @@ fn put_states<'a>(
     states: &[u8],
 ) -> Result<(), AllocError>
     ensures { IfOk result (λ _. map (λ w. w.now) words.new.items
-        ≡ map (λ w. w.now) words.old.items ++ map (text.cache_name draft.now) states.now) }
+        ≡ map (λ w. w.now) words.old.items ++ map (word.cache_name draft.now) states.now) }
 {
     for state in states {
-        words.push(cache_name(draft, *state))?;
+        words.push(cache_name(draft, usize::from(*state)))?;
     }
     Ok(())
 }
@@ -148,7 +117,7 @@ fn put_pair<'a>(words: &mut Vec<&'a str>, draft: &'a Draft, pair: Pair) -> Resul
         ≡ map (λ w. w.now) words.old.items ++ words_in (text.pair_words draft.now pair ∷ [])) }
 {
     words.push(reply_word(draft, pair.reply))?;
-    words.push(cache_name(draft, pair.fin))?;
+    words.push(cache_name(draft, usize::from(pair.fin)))?;
     Ok(())
 }
 
@@ -182,13 +151,13 @@ fn put_form<'a>(
         CoreForm::Hit(None) => words.push("hit")?,
         CoreForm::Hit(Some(next)) => {
             words.push("hit")?;
-            words.push(cache_name(draft, *next))?;
+            words.push(cache_name(draft, usize::from(*next)))?;
         }
         CoreForm::Ask { request, pairs } => {
-            words.push(message_name(draft, *request))?;
+            words.push(message_name(draft, usize::from(*request)))?;
             put_pairs(words, draft, pairs.as_slice())?;
         }
-        CoreForm::Leave { request } => words.push(message_name(draft, *request))?,
+        CoreForm::Leave { request } => words.push(message_name(draft, usize::from(*request)))?,
     }
     Ok(())
 }
@@ -202,7 +171,7 @@ impl Spelled for CoreLine {
         words: &mut Vec<&'a str>,
     ) -> Result<(), AllocError> {
         words.push("core")?;
-        words.push(cache_name(draft, self.state))?;
+        words.push(cache_name(draft, usize::from(self.state)))?;
         words.push(event_word(self.event))?;
         put_form(words, draft, &self.form)
     }
@@ -217,12 +186,12 @@ impl Spelled for TakeLine {
         words: &mut Vec<&'a str>,
     ) -> Result<(), AllocError> {
         words.push("take")?;
-        words.push(cache_name(draft, self.state))?;
-        words.push(message_name(draft, self.forward))?;
+        words.push(cache_name(draft, usize::from(self.state)))?;
+        words.push(message_name(draft, usize::from(self.forward)))?;
         if let Some(reply) = self.reply {
-            words.push(message_name(draft, reply))?;
+            words.push(message_name(draft, usize::from(reply)))?;
         }
-        words.push(cache_name(draft, self.next))?;
+        words.push(cache_name(draft, usize::from(self.next)))?;
         Ok(())
     }
 }
@@ -236,14 +205,14 @@ impl Spelled for RowLine {
         words: &mut Vec<&'a str>,
     ) -> Result<(), AllocError> {
         words.push("row")?;
-        words.push(dir_name(draft, self.dir))?;
+        words.push(dir_name(draft, usize::from(self.dir)))?;
         match self.form {
             RowForm::Ask {
                 request,
                 who,
                 action,
             } => {
-                words.push(message_name(draft, request))?;
+                words.push(message_name(draft, usize::from(request)))?;
                 words.push(who_word(who))?;
                 words.push(action_word(draft, action))?;
             }
@@ -253,7 +222,7 @@ impl Spelled for RowLine {
                 words.push(left_word(left))?;
             }
         }
-        words.push(dir_name(draft, self.next))?;
+        words.push(dir_name(draft, usize::from(self.next)))?;
         Ok(())
     }
 }

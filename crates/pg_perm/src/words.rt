@@ -1,10 +1,11 @@
+//! The words by which a text and a history call the kinds.
 ghost use Rattle.std.specs.Prelude.{◌≡◌};
-ghost use Rattle.pg_forms.specs.Forms.{role_word as word_of_role, perm_word as word_of_perm, request_word as word_of_request, event_word as word_of_event, dir_word as word_of_dir, forward_word as word_of_forward, who_word as word_of_who, left_word as word_of_left};
+ghost use Rattle.pg_perm.specs.Words as word;
 
-use pg_perm::{DirKind, Event, FwdClass, Left, Perm, ReqClass, Role, Who};
+use crate::kinds::{DirKind, Event, FwdClass, Left, Perm, ReqClass, Role, Who};
 
 pub fn role_word(role: Role) -> &'static str
-    ensures { result.now ≡ word_of_role role }
+    ensures { result.now ≡ word.role_word role }
 {
     match role {
         Role::Out => "out",
@@ -14,7 +15,7 @@ pub fn role_word(role: Role) -> &'static str
 }
 
 pub fn perm_word(perm: Perm) -> &'static str
-    ensures { result.now ≡ word_of_perm perm }
+    ensures { result.now ≡ word.perm_word perm }
 {
     match perm {
         Perm::None => "none",
@@ -24,7 +25,7 @@ pub fn perm_word(perm: Perm) -> &'static str
 }
 
 pub fn dir_word(kind: DirKind) -> &'static str
-    ensures { result.now ≡ word_of_dir kind }
+    ensures { result.now ≡ word.dir_word kind }
 {
     match kind {
         DirKind::Idle => "idle",
@@ -35,7 +36,7 @@ pub fn dir_word(kind: DirKind) -> &'static str
 }
 
 pub fn request_word(class: ReqClass) -> &'static str
-    ensures { result.now ≡ word_of_request class }
+    ensures { result.now ≡ word.request_word class }
 {
     match class {
         ReqClass::Read => "read",
@@ -46,7 +47,7 @@ pub fn request_word(class: ReqClass) -> &'static str
 }
 
 pub fn forward_word(class: FwdClass) -> &'static str
-    ensures { result.now ≡ word_of_forward class }
+    ensures { result.now ≡ word.forward_word class }
 {
     match class {
         FwdClass::Inv => "inv",
@@ -57,7 +58,7 @@ pub fn forward_word(class: FwdClass) -> &'static str
 }
 
 pub fn event_word(event: Event) -> &'static str
-    ensures { result.now ≡ word_of_event event }
+    ensures { result.now ≡ word.event_word event }
 {
     match event {
         Event::Load => "load",
@@ -67,7 +68,7 @@ pub fn event_word(event: Event) -> &'static str
 }
 
 pub fn who_word(who: Who) -> &'static str
-    ensures { result.now ≡ word_of_who who }
+    ensures { result.now ≡ word.who_word who }
 {
     match who {
         Who::Other => "other",
@@ -77,7 +78,7 @@ pub fn who_word(who: Who) -> &'static str
 }
 
 pub fn left_word(left: Left) -> &'static str
-    ensures { result.now ≡ word_of_left left }
+    ensures { result.now ≡ word.left_word left }
 {
     match left {
         Left::Last => "last",

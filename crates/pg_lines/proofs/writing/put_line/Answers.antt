@@ -1,6 +1,6 @@
 use Rattle.std.specs.String.{string_bytes}
-use Rattle.pg_text.proofs.Joining.{line_put}
-use Rattle.pg_text.proofs.printer.put_line.Goals as goal
+use Rattle.pg_lines.proofs.Joining.{line_put}
+use Rattle.pg_lines.proofs.writing.put_line.Goals as goal
 
 pub returns : goal.returns
 returns c = line_put c.args.words.now (string_bytes c.args.text.now) (string_bytes c.in_ok-line.line) c.as_str.result.now _ _
