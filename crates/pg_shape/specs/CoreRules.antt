@@ -1,5 +1,5 @@
 -- The rules that a core line breaks.
-use Rattle.std.specs.Prelude.{ℕ, zero, suc, Bool, true, false, not, ◌==◌, ◌&&◌, ◌||◌, List, [], ◌∷◌, length, slice_get, take, Option, Some, None, is_some}
+use Rattle.std.specs.Prelude.{ℕ, zero, suc, Bool, true, false, not, ◌==◌, ◌&&◌, ◌||◌, List, [], ◌∷◌, length, slice_get, take, Some, None, is_some}
 use Rattle.std.specs.List.{list_any}
 use Rattle.std.specs.Option.{option_map_or}
 use Rattle.pg_perm.specs.declared.kinds.Role.{Role}
@@ -20,7 +20,7 @@ use Rattle.pg_perm.specs.declared.draft.ReplyName.{ReplyName}
 use Rattle.pg_perm.specs.declared.draft.ReplyName.TheVariants as reply
 use Rattle.pg_perm.specs.declared.fault.Rule.{Rule}
 use Rattle.pg_perm.specs.declared.fault.Rule.TheVariants.{S7, S9, S10, S11, S19}
-use Rattle.pg_terms.specs.Terms.{is_out, is_owner, is_none_perm, is_write_perm, same_event, is_request_of, is, is_other, is_write_owner, cache_is, shared, request_of, lists_state, core_row}
+use Rattle.pg_terms.specs.Terms.{is_out, is_owner, same_event, is_request_of, is, is_other, is_write_owner, cache_is, shared, request_of, lists_state, core_row}
 use Rattle.pg_terms.specs.Due.{same_reply, is_load_reply, is_store_reply}
 use Rattle.pg_terms.specs.Rows.{allows, store_next}
 

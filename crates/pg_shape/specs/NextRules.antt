@@ -1,7 +1,7 @@
 -- The directory state that each row line leads to.
-use Rattle.std.specs.Prelude.{ℕ, Bool, true, not, ◌&&◌, ◌||◌, List, Option, None, find}
+use Rattle.std.specs.Prelude.{ℕ, Bool, true, not, ◌&&◌, ◌||◌, List, Option, None}
 use Rattle.std.specs.List.{list_all}
-use Rattle.std.specs.Option.{option_map, option_map_or, option_and_then}
+use Rattle.std.specs.Option.{option_map_or, option_and_then}
 use Rattle.pg_perm.specs.declared.kinds.DirKind.TheVariants as kind
 use Rattle.pg_perm.specs.declared.kinds.Event.{Event}
 use Rattle.pg_perm.specs.declared.kinds.Event.TheVariants.{Load, Store}
@@ -13,17 +13,13 @@ use Rattle.pg_perm.specs.declared.kinds.ReqClass.TheVariants.{Read, Write}
 use Rattle.pg_perm.specs.declared.kinds.FwdClass.TheVariants.{Share, Keep, Drop}
 use Rattle.pg_perm.specs.declared.draft.Draft.{Draft}
 use Rattle.pg_perm.specs.declared.draft.CoreLine.{CoreLine}
-use Rattle.pg_perm.specs.declared.draft.CoreForm.{CoreForm}
-use Rattle.pg_perm.specs.declared.draft.CoreForm.TheVariants.{Hit, Ask, Leave}
-use Rattle.pg_perm.specs.declared.draft.Pair.{Pair}
-use Rattle.pg_perm.specs.declared.draft.ReplyName.{ReplyName}
 use Rattle.pg_perm.specs.declared.draft.ReplyName.TheVariants as reply
 use Rattle.pg_perm.specs.declared.draft.RowLine.{RowLine}
 use Rattle.pg_perm.specs.declared.draft.RowForm.{RowForm}
 use Rattle.pg_perm.specs.declared.draft.RowForm.TheVariants as form
 use Rattle.pg_perm.specs.declared.draft.Action.{Action}
 use Rattle.pg_perm.specs.declared.draft.Action.TheVariants as action
-use Rattle.pg_terms.specs.Terms.{is_owner, is, is_read_owner, cache_is, out, shared, request_of, has_class, listed, lists, core_row, take_row, keep_of}
+use Rattle.pg_terms.specs.Terms.{is_owner, is, is_read_owner, cache_is, out, shared, request_of, has_class, listed, lists, core_row, keep_of}
 use Rattle.pg_terms.specs.Due.{kind_is}
 use Rattle.pg_terms.specs.Rows.{final_under, reply_to}
 

@@ -1,6 +1,6 @@
 -- What the shape gives: facts on the numbers of states and messages, each of which follows from rules that no line breaks. Whatever is said of
 -- protocols above is derived from these.
-use Rattle.std.specs.Prelude.{ℕ, ◌≡◌, ◌⊎◌, true, false, List, [], slice_get, Option, Some, None}
+use Rattle.std.specs.Prelude.{ℕ, ◌≡◌, ◌⊎◌, true, false, List, [], slice_get, Some, None}
 use Rattle.pg_perm.specs.declared.kinds.Event.{Event}
 use Rattle.pg_perm.specs.declared.kinds.Event.TheVariants.{Load, Store, Evict}
 use Rattle.pg_perm.specs.declared.kinds.DirKind.TheVariants as kind
@@ -20,9 +20,6 @@ use Rattle.pg_perm.specs.declared.draft.ReplyName.{ReplyName}
 use Rattle.pg_perm.specs.declared.draft.ReplyName.TheVariants as reply
 use Rattle.pg_perm.specs.declared.draft.TakeLine.{TakeLine}
 use Rattle.pg_perm.specs.declared.draft.RowLine.{RowLine}
-use Rattle.pg_perm.specs.declared.draft.RowForm.{RowForm}
-use Rattle.pg_perm.specs.declared.draft.RowForm.TheVariants as form
-use Rattle.pg_perm.specs.declared.draft.Action.{Action}
 use Rattle.pg_perm.specs.declared.draft.Action.TheVariants as action
 use Rattle.pg_terms.specs.declared.cases.DirCase.{DirCase}
 use Rattle.pg_terms.specs.declared.cases.DirCase.TheVariants as case

@@ -1,13 +1,12 @@
 -- The rules that a take line breaks.
 use Rattle.std.specs.Prelude.{ℕ, Bool, false, not, ◌==◌, ◌&&◌, ◌||◌, List, take, is_none, is_some}
 use Rattle.std.specs.List.{list_any}
-use Rattle.std.specs.Option.{option_map_or}
 use Rattle.pg_perm.specs.declared.draft.Draft.{Draft}
 use Rattle.pg_perm.specs.declared.draft.TakeLine.{TakeLine}
 use Rattle.pg_perm.specs.declared.kinds.FwdClass.TheVariants.{Inv, Share, Keep, Drop}
 use Rattle.pg_perm.specs.declared.fault.Rule.{Rule}
 use Rattle.pg_perm.specs.declared.fault.Rule.TheVariants.{S9, S12, S14}
-use Rattle.pg_terms.specs.Terms.{is, is_other, is_read_owner, cache_is, out, shared, forward_of, has_class, keep_of}
+use Rattle.pg_terms.specs.Terms.{is, is_other, is_read_owner, cache_is, out, shared, has_class, keep_of}
 use Rattle.pg_terms.specs.Due.{is_due}
 use Rattle.pg_terms.specs.Rows.{may_keep}
 

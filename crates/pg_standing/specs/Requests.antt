@@ -1,7 +1,6 @@
 -- What a request that may come does: to what the directory knows, to the cores that it sends a forward, to those that it doesn't, and to who asks.
 use Rattle.std.specs.Prelude.{ℕ, ◌≡◌, ◌≢◌, ◌==◌, true, false, Option, Some, None}
 use Rattle.std.specs.Option.{option_and_then}
-use Rattle.pg_perm.specs.declared.kinds.Event.{Event}
 use Rattle.pg_perm.specs.declared.kinds.Event.TheVariants.{Evict}
 use Rattle.pg_perm.specs.declared.kinds.Who.TheVariants.{Other, Owner}
 use Rattle.pg_perm.specs.declared.draft.Draft.{Draft}
@@ -11,8 +10,8 @@ use Rattle.pg_perm.specs.declared.draft.ReplyName.{ReplyName}
 use Rattle.pg_perm.specs.declared.draft.ReplyName.TheVariants as reply
 use Rattle.pg_perm.specs.declared.draft.Action.{Action}
 use Rattle.pg_perm.specs.declared.draft.Action.TheVariants as action
-use Rattle.pg_terms.specs.Terms.{is_write_owner, cache_is, core_row, take_row, lists}
-use Rattle.pg_terms.specs.Rows.{allows, final_under, reply_to, action_in, final}
+use Rattle.pg_terms.specs.Terms.{is_write_owner, cache_is, take_row, lists}
+use Rattle.pg_terms.specs.Rows.{allows, reply_to, action_in, final}
 use Rattle.pg_standing.specs.Standings.{Standing, Request, who, row_of, after}
 use Rattle.pg_standing.specs.Sends.{sent}
 use Rattle.pg_standing.specs.Sound.{IsSound, fits}

@@ -1,6 +1,6 @@
 -- What a directory knows of a block: its own state, the owner, and the sharers. It follows from the requests alone, in the order in which they
 -- are handled, and from no word and no message in flight.
-use Rattle.std.specs.Prelude.{ℕ, Bool, false, ◌==◌, nat_lt, List, [], ◌∷◌, Option, Some, None, position, unwrap_or, if◌then◌else◌}
+use Rattle.std.specs.Prelude.{ℕ, Bool, ◌==◌, nat_lt, List, [], ◌∷◌, Option, Some, None, position, unwrap_or, if◌then◌else◌}
 use Rattle.std.specs.List.{list_any}
 use Rattle.std.specs.Option.{option_map_or}
 use Rattle.pg_perm.specs.declared.kinds.DirKind.TheVariants as kind
@@ -11,7 +11,6 @@ use Rattle.pg_perm.specs.declared.kinds.Who.TheVariants.{Other, Sharer, Owner}
 use Rattle.pg_perm.specs.declared.kinds.Left.{Left}
 use Rattle.pg_perm.specs.declared.kinds.Left.TheVariants.{Last, More}
 use Rattle.pg_perm.specs.declared.kinds.ReqClass.TheVariants.{Read, Write}
-use Rattle.pg_perm.specs.declared.kinds.FwdClass.TheVariants.{Share}
 use Rattle.pg_perm.specs.declared.draft.Draft.{Draft}
 use Rattle.pg_perm.specs.declared.draft.RowLine.{RowLine}
 use Rattle.pg_terms.specs.declared.cases.DirCase.{DirCase}

@@ -1,5 +1,5 @@
 -- What the lines of core, take and row say.
-use Rattle.std.specs.Prelude.{ℕ, Bool, true, false, not, List, Option, Some, None, find}
+use Rattle.std.specs.Prelude.{ℕ, Bool, false, not, List, Option, Some, None, find}
 use Rattle.std.specs.Option.{option_map, option_map_or, option_and_then}
 use Rattle.pg_perm.specs.declared.kinds.Event.{Event}
 use Rattle.pg_perm.specs.declared.kinds.Event.TheVariants.{Load, Store, Evict}
