@@ -339,16 +339,13 @@ one_end : (pairs : List Pair) (j k : ℕ) (p q : Pair) → ends_differ pairs ≡
 one_end [] j k p q h e g = absurd cc
 one_end (r ∷ pairs) j k p q h e g = ends_first r pairs j p h e ∙ sym (ends_first r pairs k q h g)
 
--- a store has one final state
-store_ends_once : (d : Draft) (s t u : ℕ) (a b : ReplyName) (form : CoreForm) → Keeps d s Store form
-    → final_under a form ≡ Some t → final_under b form ≡ Some u → t ≡ u
-store_ends_once d s t u a b (Hit next) keeps e f = absurd cc
-store_ends_once d s t u a b (Leave request) keeps e f = absurd cc
-store_ends_once d s t u a b (Ask request pairs) keeps e f =
-    let (j, p, g, at_a, fin_p) = final_get a pairs t e in
-    let (k, q, i, at_b, fin_q) = final_get b pairs u f in
-    let none = or_parts (list_any (λ p. is_no_store_final d p.fin) pairs) (ends_differ pairs) keeps.ends in
-    sym fin_p ∙ one_end pairs j k p q none.1 g i ∙ fin_q
+-- all pairs of a store have one final state
+store_ends_once : (d : Draft) (s j k request : ℕ) (pairs : List Pair) (p q : Pair) (form : CoreForm) → Keeps d s Store form → form ≡ Ask request pairs
+    → slice_get pairs j ≡ Some p → slice_get pairs k ≡ Some q → p.fin ≡ q.fin
+store_ends_once d s j k request pairs p q form keeps asks e f =
+    let right : ends_wrongly d Store (Ask request pairs) ≡ false = subst (λ (f : CoreForm). ends_wrongly d Store f ≡ false) asks keeps.ends in
+    let none = or_parts (list_any (λ p. is_no_store_final d p.fin) pairs) (ends_differ pairs) right in
+    one_end pairs j k p q none.1 e f
 
 -- names of the same reply are the same
 pub reply_equal : (a b : ReplyName) → same_reply a b ≡ true → a ≡ b
@@ -560,7 +557,7 @@ cores d w h =
       store_reply_shared = store_reply_shared d w h;
       store_count = store_count d w h;
       store_final = λ s t name x e final. store_ends d s t name x.form (keeps s Store x e) final;
-      one_final = λ s t u a b x e one other. store_ends_once d s t u a b x.form (keeps s Store x e) one other;
+      one_end = λ s j k request pairs p q x e asks one other. store_ends_once d s j k request pairs p q x.form (keeps s Store x e) asks one other;
       evict = λ s x e. evict_leaves d s x.form (keeps s Evict x e);
       evict_shared = evict_shared d w h;
       evict_dirty = evict_dirty d w h;

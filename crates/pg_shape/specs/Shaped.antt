@@ -159,7 +159,8 @@ pub record HasCores (d : Draft) : Type 0 where
       → (t : ℕ) × (final_under reply.AckCount x.form ≡ Some t)
   pub store_final : (s t : ℕ) (name : ReplyName) (x : CoreLine) → core_row d s Store ≡ Some x → final_under name x.form ≡ Some t
       → (cache_is is_dirty_writer d t ≡ true) × ((y : CoreLine) → core_row d t Store ≡ Some y → stays t y.form ≡ true)
-  pub one_final : (s t u : ℕ) (a b : ReplyName) (x : CoreLine) → core_row d s Store ≡ Some x → final_under a x.form ≡ Some t → final_under b x.form ≡ Some u → t ≡ u
+  pub one_end : (s j k request : ℕ) (pairs : List Pair) (p q : Pair) (x : CoreLine) → core_row d s Store ≡ Some x → x.form ≡ Ask request pairs
+      → slice_get pairs j ≡ Some p → slice_get pairs k ≡ Some q → p.fin ≡ q.fin
   pub evict : (s : ℕ) (x : CoreLine) → core_row d s Evict ≡ Some x → (m : ℕ) × (x.form ≡ Leave m)
   pub evict_shared : (s m : ℕ) (x : CoreLine) → shared d ≡ Some s → core_row d s Evict ≡ Some x → x.form ≡ Leave m → asks_class Clean d m ≡ true
   pub evict_dirty : (s m : ℕ) (x : CoreLine) (c : CacheLine) → IsCache d s c → is_owner c.role ≡ true → c.clean ≡ false → core_row d s Evict ≡ Some x → x.form ≡ Leave m

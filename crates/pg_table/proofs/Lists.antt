@@ -19,6 +19,12 @@ at_in [] k x h = absurd cc
 at_in (y ∷ ys) zero x h = inl (same_Some y x h)
 at_in (y ∷ ys) (suc k) x h = inr (at_in ys k x h)
 
+-- what stands in a list stands at some place
+pub in_at : {X : Type 0} (xs : List X) (x : X) → IsIn x xs → (k : ℕ) × (slice_get xs k ≡ Some x)
+in_at [] x among = absurd among
+in_at (y ∷ ys) x (inl e) = (0, ap Some e)
+in_at (y ∷ ys) x (inr among) = let (k, e) = in_at ys x among in (suc k, e)
+
 -- what stands at a place of a mapped list is made of what stands there
 pub get_map : {X Y : Type 0} (f : X → Y) (xs : List X) (k : ℕ) (y : Y) → slice_get (map f xs) k ≡ Some y → (x : X) × (slice_get xs k ≡ Some x) × (f x ≡ y)
 get_map f [] k y h = absurd cc

@@ -18,7 +18,7 @@ mod worked;
 
 pub use cache::{Act, Acts, Desc, Input, Inputs, Phase, Row, Rows, Tag};
 pub use dir_table::{DirTable, DirTableState};
-pub use due_laws::{inputs_that_may_come, sound_tables_pick};
+pub use due_laws::{inputs_that_may_come, sound_tables_pick, stores_may_end};
 pub use home::{DirAct, DirActs, DirDesc, DirInput, DirInputs, DirRow, DirRows};
 pub use home_laws::{
     busy_states_have_rows, home_cases_have_rows, home_rows_lead_to_states, home_stalls_when_busy,
