@@ -23,7 +23,7 @@ fn final_state(protocol: &Protocol, start: u8, event: Event, name: ReplyName) ->
     terms::final_state(protocol.draft(), usize::from(start), event, name)
 }
 
-/// The acts with which an operation is done, and the forwards that came behind it are answered.
+/// The acts with which an operation is done, and the later forwards that were put off are answered.
 fn done(alloc: Global, tag: Tag, acts: &[Act]) -> Result<Vec<Act>, AllocError>
     ensures { IfOk result (λ all. all.items ≡ acts.now ++ Act.Done ∷ [] ++ may.serves tag) }
 {

@@ -117,7 +117,7 @@ fn is_later_kept(protocol: &Protocol, start: u8, event: Event, forward: u8) -> b
     any_due_once_kept(protocol, pairs_of(protocol, start, event), forward)
 }
 
-/// Whether a forward may come behind an operation that began in this state.
+/// Whether a forward may come that is later than an operation that began in this state.
 fn is_later(protocol: &Protocol, start: u8, event: Event, tag: Tag, forward: u8) -> bool
     ensures { result ≡ may.is_later protocol.now start event tag forward }
 {
@@ -128,7 +128,7 @@ fn is_later(protocol: &Protocol, start: u8, event: Event, tag: Tag, forward: u8)
     }
 }
 
-/// The tag once the forward has come behind.
+/// The tag once this later forward has come.
 fn tag_by(protocol: &Protocol, forward: u8) -> Tag
     ensures { result ≡ may.tag_by protocol.now forward }
 {
@@ -141,7 +141,7 @@ fn tag_by(protocol: &Protocol, forward: u8) -> Tag
     }
 }
 
-/// What takes a forward that comes behind where it doesn't wait.
+/// What takes a later forward where it doesn't wait.
 fn taking(protocol: &Protocol, forward: u8) -> Act
     ensures { result ≡ (if term.has_class FwdClass.Inv protocol.now forward then Act.Ack else Act.Defer) }
 {
@@ -152,7 +152,7 @@ fn taking(protocol: &Protocol, forward: u8) -> Act
     }
 }
 
-/// Lets a forward that comes behind the outstanding operation wait, or takes it.
+/// Lets a forward that is later than the outstanding operation wait, or takes it.
 pub fn later(
     alloc: Global,
     protocol: &Protocol,

@@ -12,7 +12,7 @@ use std::alloc::{AllocError, Global};
 
 /// Generates the tables of both controllers of a protocol.
 ///
-/// In the stalling mode each forward that comes behind an outstanding operation waits, and in the deferring mode none does. docs/TABLES.md has
+/// In the stalling mode each forward that is later than an outstanding operation waits, and in the deferring mode none does. docs/TABLES.md has
 /// the states and the rows.
 pub fn generate(alloc: Global, protocol: &Protocol, mode: Mode) -> Result<Tables, AllocError>
     ensures exact { IfOk result (λ t. t ≡ generated_tables protocol.now mode) }

@@ -19,7 +19,7 @@ ghost use Rattle.pg_infer.specs.Race.{class_of, event_of, start_of, role_of, is_
 /// In each state with an outstanding operation the race order decides what may be done with a forward. Where it puts the forward's transaction before
 /// the own one, the forward is answered at once, as in the stable state where the operation began or has been led since, and the operation goes on from
 /// the state that the answer leads to. Where it puts it after, the forward waits, or is taken: an inv is acknowledged and another is put off. There
-/// it has no choice at all where it can't come behind the operation.
+/// it has no choice at all where no such later forward can come.
 pub fn the_race_order_decides()
     ensures { (d : Draft) (m : Mode) (s : Desc) (event : Event) (f : ℕ) (class : FwdClass) → IsWellFormed d → IsShaped d → is_among (descs d m) s ≡ true
         → event_of s ≡ Some event → class_of d f ≡ Some class

@@ -22,7 +22,7 @@ side_of_start role.Out class = After
 side_of_start role.Shared class = side_of_sharer class
 side_of_start role.Owner class = Before
 
--- by the state in which the operation began, by the operation, by whether data or a count was taken for it or an after-forward, and by the
+-- by the state in which the operation began, by the operation, by whether data or a count was taken for it or a later forward, and by the
 -- forward's class
 abbrev pub side : Role → Event → Bool → FwdClass → Side
 side start event true class = After

@@ -113,7 +113,7 @@ pub first_in : (xs : List ℕ) (x : ℕ) → store_final xs ≡ Some x → IsIn 
 first_in [] x h = absurd cc
 first_in (y ∷ ys) x h = inl (same_Some y x h)
 
--- Forwards that come behind
+-- Later forwards
 
 keep_below : (d : Draft) (s x : ℕ) → IsWellFormed d → keep_of d s ≡ Some x → x < length d.caches
 keep_below d s x well e = at (forward_of d Keep) e

@@ -35,7 +35,7 @@ due_class d s f h = at (one_of (is (shared d) s && is (forward_of d class.Inv) f
     at (inr other) = owned (one_three (has_class class.Share d f) (has_class class.Keep d f) (has_class class.Drop d f)
         (three_and (cache_is (λ c. is_owner c.role) d s) (is_to_owner d f) _ other).1)
 
--- and so is what may come behind
+-- and so is a later forward
 pub later_class : (d : Draft) (s : ℕ) (e : Event) (t : Tag) (f : ℕ) → is_later d s e t f ≡ true → (c : FwdClass) × (has_class c d f ≡ true)
 later_class d s e Plain f h = let (k, x, g, due) = any_get (λ x. is_due d x f) (finals d s e) h in due_class d x f due
 later_class d s e Kept f h =

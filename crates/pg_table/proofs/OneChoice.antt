@@ -1,4 +1,4 @@
--- Where no forward comes behind an operation, a cache has one choice at most.
+-- Where no forward is later than an operation, a cache has one choice at most.
 use Rattle.std.proofs.Common.{◌≡◌, ◌⊎◌, ℕ, Bool, true, false, cond, not, ◌&&◌, List, [], ◌∷◌, ◌++◌, Option, Some, None, refl, inl, inr}
 use Rattle.std.specs.Prelude.{is_some}
 use Rattle.std.specs.Option.{option_and_then}
@@ -22,7 +22,7 @@ use Rattle.pg_table.specs.declared.cache.Act.{Act}
 use Rattle.pg_table.specs.declared.cache.Act.TheVariants as act
 use Rattle.pg_table.specs.Descriptors.{out_state, after, finals, store_phase}
 use Rattle.pg_table.specs.Choices.{Choice, only, given, answer, answered, is_later, later, leaves_by, serves, ends, is_earlier, earlier, store_final, choices}
-use Rattle.pg_table.specs.Stalls.{comes_behind}
+use Rattle.pg_table.specs.Stalls.{is_later_at}
 use Rattle.pg_table.proofs.Stalls.{later_off}
 
 -- there is no choice, or one
@@ -54,8 +54,8 @@ answered_one d s f onward = either_one (is_due d s f) _ []
 later_none : (d : Draft) (s : ℕ) (e : Event) (p : Phase) (t : Tag) (f : ℕ) → is_later d s e t f ≡ false → IsSingle (later d s e p t f)
 later_none d s e p t f h = inl (later_off d s e p t f h)
 
--- where no forward comes behind, there is one choice at most
-pub single_choice : (d : Draft) (s : Desc) (i : Input) → comes_behind d s i ≡ false → (choices d s i ≡ []) ⊎ ((c : Choice) × (choices d s i ≡ c ∷ []))
+-- where no forward is later, there is one choice at most
+pub single_choice : (d : Draft) (s : Desc) (i : Input) → is_later_at d s i ≡ false → (choices d s i ≡ []) ⊎ ((c : Choice) × (choices d s i ≡ c ∷ []))
 single_choice d (Stable s) (at.Core Load) h = either_one (cache_is (allows Load) d s) _ _ (only_one (act.Hit ∷ []) (Stable s))
     (given_one (request_of d Read) (λ q. only (act.Send q ∷ []) (Ask Load (out_state d) D Plain)) (λ q. only_one (act.Send q ∷ []) (Ask Load (out_state d) D Plain)))
 single_choice d (Stable s) (at.Core Store) h = either_one (cache_is (allows Store) d s) _ _

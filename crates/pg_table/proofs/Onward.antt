@@ -71,7 +71,7 @@ answered_leads d m s f onward each =
     (λ t row. one_choice d m (answer d f t.reply) (onward t.next) (each t due row)))
     (λ not_due. no_choice d m)
 
--- a forward that comes behind
+-- a later forward
 later_leads : (d : Draft) (m : Mode) (s : ℕ) (event : Event) (phase : Phase) (tag : Tag) (f : ℕ) → IsShaped d → IsState d m (Ask event s phase tag)
     → (HasTag d m s event (tag_by d f) → IsState d m (Ask event s phase (tag_by d f))) → Leads d m (later d s event phase tag f)
 later_leads d m s event phase tag f shape first second =

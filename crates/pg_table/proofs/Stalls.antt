@@ -33,7 +33,7 @@ use Rattle.pg_table.specs.declared.cache.Act.TheVariants as act
 use Rattle.pg_table.specs.Descriptors.{out_state, after, finals, store_phase}
 use Rattle.pg_table.specs.Choices.{Choice, only, given, gives, answer, answered, is_later, tag_by, later, leaves_by, serves, ends, is_earlier, earlier, store_final, choices}
 use Rattle.pg_table.specs.Generated.{chosen}
-use Rattle.pg_table.specs.Stalls.{comes_behind, is_stall}
+use Rattle.pg_table.specs.Stalls.{is_later_at, is_stall}
 use Rattle.pg_table.proofs.Chosen.{chosen_passes}
 
 -- Choices by which nothing waits
@@ -76,19 +76,19 @@ answered_on d s f onward = either_on (is_due d s f) _ []
     (given_on (take_row d s f) (λ t. only (answer d f t.reply) (onward t.next))
     (λ t. only_on (answer d f t.reply) (onward t.next) (answer_on (has_class class.Inv d f) (has_class class.Share d f) t.reply))) refl
 
--- the choices where a forward comes behind: it waits, or it is taken at once
+-- the choices at a later forward: it waits, or it is taken at once
 abbrev waiting : ℕ → Event → Phase → Tag → Choice
 waiting s e p t = record { acts = act.Stall ∷ []; next = Ask e s p t }
 
 abbrev taken : Draft → ℕ → Event → Phase → ℕ → Choice
 taken d s e p f = record { acts = (cond (has_class class.Inv d f) act.Ack act.Defer) ∷ []; next = Ask e s p (tag_by d f) }
 
--- where a forward doesn't come behind, there is neither
+-- where a forward isn't later, there is neither
 pub later_off : (d : Draft) (s : ℕ) (e : Event) (p : Phase) (t : Tag) (f : ℕ) → is_later d s e t f ≡ false → later d s e p t f ≡ []
 later_off d s e p t f h = ap (λ b. cond b (waiting s e p t ∷ taken d s e p f ∷ []) []) h
 
--- where no forward comes behind, nothing waits
-others : (d : Draft) (s : Desc) (i : Input) → comes_behind d s i ≡ false → list_all goes_on (choices d s i) ≡ true
+-- where no forward is later, nothing waits
+others : (d : Draft) (s : Desc) (i : Input) → is_later_at d s i ≡ false → list_all goes_on (choices d s i) ≡ true
 others d (Stable s) (at.Core Load) h =
     either_on (cache_is (allows Load) d s) _ _ refl (given_on (request_of d Read) (λ q. only (act.Send q ∷ []) (Ask Load (out_state d) D Plain)) (λ q. refl))
 others d (Stable s) (at.Core Store) h = either_on (cache_is (allows Store) d s) _ _
@@ -119,7 +119,7 @@ others d (Leave s) at.PutAck h = refl
 others d (Leave s) (at.Forward f) h = answered_on d s f (λ t. Leave t)
 others d _ _ h = refl
 
--- Choices where a forward comes behind
+-- Choices at later forwards
 
 -- of two choices by the first the message waits, and by the second it doesn't
 abbrev WaitsOrNot : List Choice → Type 0
@@ -128,8 +128,8 @@ WaitsOrNot cs = (c e : Choice) × (cs ≡ c ∷ e ∷ []) × (c.acts ≡ act.Sta
 later_is : (d : Draft) (s : ℕ) (e : Event) (p : Phase) (t : Tag) (f : ℕ) → is_later d s e t f ≡ true → later d s e p t f ≡ waiting s e p t ∷ taken d s e p f ∷ []
 later_is d s e p t f h = ap (λ b. cond b (waiting s e p t ∷ taken d s e p f ∷ []) []) h
 
--- where a forward comes behind there are both
-pub both_choices : (d : Draft) (e : Event) (s : ℕ) (p : Phase) (t : Tag) (f : ℕ) → comes_behind d (Ask e s p t) (at.Forward f) ≡ true
+-- at a later forward there are both
+pub both_choices : (d : Draft) (e : Event) (s : ℕ) (p : Phase) (t : Tag) (f : ℕ) → is_later_at d (Ask e s p t) (at.Forward f) ≡ true
     → choices d (Ask e s p t) (at.Forward f) ≡ waiting s e p t ∷ taken d s e p f ∷ []
 both_choices d Load s D t f h = later_is d s Load D t f h
 both_choices d Store s Ad t f h =
@@ -138,15 +138,15 @@ both_choices d Store s Ad t f h =
 both_choices d Store s A t f h = later_is d s Store A t f h
 both_choices d _ _ _ _ _ h = absurd cc
 
--- only a forward comes behind, in a state of a load or a store
-pub forwards_behind : (d : Draft) (s : Desc) (i : Input) → comes_behind d s i ≡ true
+-- only a forward is later, in a state of a load or a store
+pub forwards_behind : (d : Draft) (s : Desc) (i : Input) → is_later_at d s i ≡ true
     → (e : Event) × (x : ℕ) × (p : Phase) × (t : Tag) × (f : ℕ) × (s ≡ Ask e x p t) × (i ≡ at.Forward f)
 forwards_behind d (Ask Load s D t) (at.Forward f) h = (Load, s, D, t, f, refl, refl)
 forwards_behind d (Ask Store s Ad t) (at.Forward f) h = (Store, s, Ad, t, f, refl, refl)
 forwards_behind d (Ask Store s A t) (at.Forward f) h = (Store, s, A, t, f, refl, refl)
 forwards_behind d _ _ h = absurd cc
 
-waits_or_not : (d : Draft) (e : Event) (s : ℕ) (p : Phase) (t : Tag) (f : ℕ) → comes_behind d (Ask e s p t) (at.Forward f) ≡ true
+waits_or_not : (d : Draft) (e : Event) (s : ℕ) (p : Phase) (t : Tag) (f : ℕ) → is_later_at d (Ask e s p t) (at.Forward f) ≡ true
     → WaitsOrNot (choices d (Ask e s p t) (at.Forward f))
 waits_or_not d e s p t f h = (waiting s e p t, taken d s e p f, both_choices d e s p t f h, refl, at (has_class class.Inv d f))
   where
@@ -154,7 +154,7 @@ waits_or_not d e s p t f h = (waiting s e p t, taken d s e p f, both_choices d e
     at true = refl
     at false = refl
 
-behind : (d : Draft) (s : Desc) (i : Input) → comes_behind d s i ≡ true → WaitsOrNot (choices d s i)
+behind : (d : Draft) (s : Desc) (i : Input) → is_later_at d s i ≡ true → WaitsOrNot (choices d s i)
 behind d (Ask Load s D t) (at.Forward f) h = waits_or_not d Load s D t f h
 behind d (Ask Store s Ad t) (at.Forward f) h = waits_or_not d Store s Ad t f h
 behind d (Ask Store s A t) (at.Forward f) h = waits_or_not d Store s A t f h
@@ -162,28 +162,28 @@ behind d _ _ h = absurd cc
 
 -- What is chosen
 
--- where no forward comes behind, no stall is chosen
-pub others_go_on : (d : Draft) (m : Mode) (s : Desc) (i : Input) (c : Choice) → chosen m (choices d s i) ≡ Some c → comes_behind d s i ≡ false → list_any is_stall c.acts ≡ false
+-- where no forward is later, no stall is chosen
+pub others_go_on : (d : Draft) (m : Mode) (s : Desc) (i : Input) (c : Choice) → chosen m (choices d s i) ≡ Some c → is_later_at d s i ≡ false → list_any is_stall c.acts ≡ false
 others_go_on d m s i c e h = true_not (list_any is_stall c.acts) (chosen_passes goes_on m c (choices d s i) (others d s i h) e)
 
-behind_waits : (d : Draft) (s : Desc) (i : Input) (c : Choice) → chosen mode.Stall (choices d s i) ≡ Some c → comes_behind d s i ≡ true → c.acts ≡ act.Stall ∷ []
+behind_waits : (d : Draft) (s : Desc) (i : Input) (c : Choice) → chosen mode.Stall (choices d s i) ≡ Some c → is_later_at d s i ≡ true → c.acts ≡ act.Stall ∷ []
 behind_waits d s i c e h =
     let (a, b, is, waits, on) = behind d s i h in
     ap (λ (c : Choice). c.acts) (sym (same_Some a c (ap (chosen mode.Stall) (sym is) ∙ e))) ∙ waits
 
--- where forwards wait, exactly those do that come behind
-pub stalls : (d : Draft) (s : Desc) (i : Input) (c : Choice) → chosen mode.Stall (choices d s i) ≡ Some c → ((c.acts ≡ act.Stall ∷ []) ↔ (comes_behind d s i ≡ true))
-stalls d s i c e = (λ h. at (comes_behind d s i) refl h, behind_waits d s i c e)
+-- where forwards wait, exactly the later ones do
+pub stalls : (d : Draft) (s : Desc) (i : Input) (c : Choice) → chosen mode.Stall (choices d s i) ≡ Some c → ((c.acts ≡ act.Stall ∷ []) ↔ (is_later_at d s i ≡ true))
+stalls d s i c e = (λ h. at (is_later_at d s i) refl h, behind_waits d s i c e)
   where
-    at : (b : Bool) → comes_behind d s i ≡ b → c.acts ≡ act.Stall ∷ [] → b ≡ true
+    at : (b : Bool) → is_later_at d s i ≡ b → c.acts ≡ act.Stall ∷ [] → b ≡ true
     at true g h = refl
     at false g h = absurd (not_both (list_any is_stall c.acts) (ap (list_any is_stall) h) (others_go_on d mode.Stall s i c e g))
 
 -- where they are put off, nothing waits
 pub none_waits : (d : Draft) (s : Desc) (i : Input) (c : Choice) → chosen mode.Defer (choices d s i) ≡ Some c → list_any is_stall c.acts ≡ false
-none_waits d s i c e = at (comes_behind d s i) refl
+none_waits d s i c e = at (is_later_at d s i) refl
   where
-    at : (b : Bool) → comes_behind d s i ≡ b → list_any is_stall c.acts ≡ false
+    at : (b : Bool) → is_later_at d s i ≡ b → list_any is_stall c.acts ≡ false
     at true h =
         let (a, b, is, waits, on) = behind d s i h in
         true_not (list_any is_stall c.acts) (ap goes_on (sym (same_Some b c (ap (chosen mode.Defer) (sym is) ∙ e))) ∙ on)

@@ -69,7 +69,7 @@ takes_to_start d s f t shape due row = let (class, of) = due_class d s f due in 
     at Keep of = inr (inr (shape.takes.keep s f t row of).1)
     at Drop of = inl (shape.takes.drop s f t row of).1
 
--- Operations that nothing has come behind
+-- Operations that have met no later forward
 
 plain : (d : Draft) (m : Mode) (s : ℕ) (event : Event) → (x : ℕ) × IsIn x (finals d s event) → HasTag d m s event Plain
 plain d mode.Stall s event ends = refl
@@ -99,7 +99,7 @@ store_begins d m s well shape start = at (cache_is (λ c. is_owner c.role) d s) 
     at true e = (start, e, refl)
     at false e = (start, e, store_plain d m s well shape start)
 
--- Operations that forwards have come behind
+-- Operations that have met later forwards
 
 -- a tag that a final state may have
 abbrev Bears : Draft → ℕ → Tag → Type 0
@@ -147,7 +147,7 @@ kept_tagged d x k f shape keeps leads due = at (has_class Share d f) refl (has_c
     at false share true = bears_kept d x keeps (ap is_some leads)
     at false share false = bears_gone d x shape.perms
 
--- a forward that may come behind sets a tag that there is
+-- a later forward that may come sets a tag that there is
 pub later_tagged : (d : Draft) (s : ℕ) (event : Event) (tag : Tag) (f : ℕ) → IsShaped d → is_later d s event tag f ≡ true → is_tag_of d s event (tag_by d f) ≡ true
 later_tagged d s event Plain f shape h =
     let (x, there, due) = any_in (λ x. is_due d x f) (finals d s event) h in

@@ -22,7 +22,7 @@ use Rattle.pg_table.specs.declared.table.TableState.{TableState}
 use Rattle.pg_table.specs.Descriptors.{descs}
 use Rattle.pg_table.specs.Choices.{Choice, choices}
 use Rattle.pg_table.specs.Generated.{inputs, chosen, GenRow, row_for, rows_of}
-use Rattle.pg_table.specs.Stalls.{comes_behind, is_stall}
+use Rattle.pg_table.specs.Stalls.{is_later_at, is_stall}
 use Rattle.pg_table.specs.Tables.{same_desc, number_of, table_row, cache_table}
 use Rattle.pg_table.specs.Sound.{rows_for}
 use Rattle.pg_table.proofs.Same.{same_desc_self}
@@ -70,21 +70,21 @@ none_stalls d n k s r h g =
     let (j, c, is, chose, acts) = row_chosen d mode.Defer n k s r h g in
     ap (list_any is_stall) acts ∙ none_waits d s.desc j c chose
 
--- where they wait, exactly the rows of those let them wait that come behind
+-- where they wait, exactly the rows of the later ones let them wait
 pub behind_stalls : (d : Draft) (n k : ℕ) (s : TableState) (r : Row) (i : Input) → slice_get (cache_table d mode.Stall) n ≡ Some s → slice_get s.rows k ≡ Some r
-    → r.inputs ≡ i ∷ [] → ((r.acts ≡ act.Stall ∷ []) ↔ (comes_behind d s.desc i ≡ true))
+    → r.inputs ≡ i ∷ [] → ((r.acts ≡ act.Stall ∷ []) ↔ (is_later_at d s.desc i ≡ true))
 behind_stalls d n k s r i h g e =
     let (c, chose, acts) = input_chosen d mode.Stall s.desc r i (row_chosen d mode.Stall n k s r h g) e in
     let (there, back) = stalls d s.desc i c chose in
     (λ waits. there (sym acts ∙ waits), λ comes. acts ∙ back comes)
 
 pub others_no_stall : (d : Draft) (n k : ℕ) (s : TableState) (r : Row) (i : Input) → slice_get (cache_table d mode.Stall) n ≡ Some s → slice_get s.rows k ≡ Some r
-    → r.inputs ≡ i ∷ [] → comes_behind d s.desc i ≡ false → list_any is_stall r.acts ≡ false
+    → r.inputs ≡ i ∷ [] → is_later_at d s.desc i ≡ false → list_any is_stall r.acts ≡ false
 others_no_stall d n k s r i h g e other =
     let (c, chose, acts) = input_chosen d mode.Stall s.desc r i (row_chosen d mode.Stall n k s r h g) e in
     ap (list_any is_stall) acts ∙ others_go_on d mode.Stall s.desc i c chose other
 
--- The rows of forwards that come behind
+-- The rows of later forwards
 
 each_at : {X : Type 0} (P : X → Type 0) (xs : List X) (k : ℕ) (x : X) → AllByRecursion P xs → slice_get xs k ≡ Some x → P x
 each_at P [] k x h get = absurd cc
@@ -108,21 +108,21 @@ number_is : (d : Draft) (m : Mode) (n : ℕ) (s : Desc) → IsWellFormed d → I
 number_is d m n s w sh get =
     one_place (descs d m) s (number_of (descs d m) s) n (descs_distinct d m w sh) (number_of_at (descs d m) s (at_among (descs d m) n s get)) get
 
--- where forwards wait, one that comes behind an operation has a row, and that stays in its state
-behind_chosen : (d : Draft) (s : Desc) (i : Input) → comes_behind d s i ≡ true → chosen mode.Stall (choices d s i) ≡ Some (record { acts = act.Stall ∷ []; next = s })
+-- where forwards wait, a later one has a row, and that stays in its state
+behind_chosen : (d : Draft) (s : Desc) (i : Input) → is_later_at d s i ≡ true → chosen mode.Stall (choices d s i) ≡ Some (record { acts = act.Stall ∷ []; next = s })
 behind_chosen d (Ask Load s D t) (at.Forward f) h = ap (chosen mode.Stall) (both_choices d Load s D t f h)
 behind_chosen d (Ask Store s Ad t) (at.Forward f) h = ap (chosen mode.Stall) (both_choices d Store s Ad t f h)
 behind_chosen d (Ask Store s A t) (at.Forward f) h = ap (chosen mode.Stall) (both_choices d Store s A t f h)
 behind_chosen d _ _ h = absurd cc
 
 pub behind_row : (d : Draft) (n : ℕ) (s : TableState) (i : Input) → IsWellFormed d → IsShaped d → slice_get (cache_table d mode.Stall) n ≡ Some s
-    → comes_behind d s.desc i ≡ true → rows_for i s.rows ≡ record { inputs = i ∷ []; acts = act.Stall ∷ []; next = n } ∷ []
+    → is_later_at d s.desc i ≡ true → rows_for i s.rows ≡ record { inputs = i ∷ []; acts = act.Stall ∷ []; next = n } ∷ []
 behind_row d n s i w sh h comes =
     let (x, get, is) = state_whole d (λ s i. mode.Stall) (descs d mode.Stall) (descs d mode.Stall) n s h in
-    subst (λ (s : TableState). comes_behind d s.desc i ≡ true → rows_for i s.rows ≡ record { inputs = i ∷ []; acts = act.Stall ∷ []; next = n } ∷ []) is
+    subst (λ (s : TableState). is_later_at d s.desc i ≡ true → rows_for i s.rows ≡ record { inputs = i ∷ []; acts = act.Stall ∷ []; next = n } ∷ []) is
     (of x get) comes
   where
-    of : (x : Desc) → slice_get (descs d mode.Stall) n ≡ Some x → comes_behind d x i ≡ true
+    of : (x : Desc) → slice_get (descs d mode.Stall) n ≡ Some x → is_later_at d x i ≡ true
         → rows_for i (map (table_row (descs d mode.Stall)) (rows_of d mode.Stall x)) ≡ record { inputs = i ∷ []; acts = act.Stall ∷ []; next = n } ∷ []
     of x get comes =
         rows_for_input d (λ s i. mode.Stall) (descs d mode.Stall) x i w sh

@@ -1,4 +1,4 @@
--- What a tag tells: the state in which an operation ends once the forwards that came behind it have been answered.
+-- What a tag tells: the state in which an operation ends once the later forwards have been answered.
 use Rattle.std.proofs.Common.{◌≡◌, ℕ, ◌⊎◌, Bool, true, false, cond, ◌&&◌, Option, Some, None, refl, sym, subst, ap, ◌∙◌, inl, inr}
 use Rattle.std.specs.Prelude.{slice_get}
 use Rattle.std.specs.Option.{option_map_or}
@@ -142,7 +142,7 @@ keep_stays d f x g shape e due of =
     let (l, row, told) = tells d f Kept x g shape e due in
     (l, row, same_Some l.next x (sym told ∙ ap (after d f) (tag_is d g Keep of) ∙ e))
 
--- a forward that comes behind is due at the state that the tag tells of some final state
+-- a later forward is due at the state that the tag tells of some final state
 pub later_due : (d : Draft) (s : ℕ) (e : Event) (t : Tag) (g : ℕ) → is_later d s e t g ≡ true
     → (k : ℕ) × (f : ℕ) × (x : ℕ) × (slice_get (finals d s e) k ≡ Some f) × (after d f t ≡ Some x) × (is_due d x g ≡ true)
 later_due d s e Plain g h = let (k, f, get, due) = any_get (λ x. is_due d x g) (finals d s e) h in (k, f, f, get, refl, due)
@@ -154,7 +154,7 @@ later_due d s e Kept g h =
 later_due d s e Gave g h = absurd cc
 later_due d s e Gone g h = absurd cc
 
--- and one that is due there comes behind, where nothing has or only keeps have
+-- and one that is due there may come as a later one, where none has or only keeps have
 pub due_later_plain : (d : Draft) (s : ℕ) (e : Event) (k f g : ℕ) → slice_get (finals d s e) k ≡ Some f → is_due d f g ≡ true → is_later d s e Plain g ≡ true
 due_later_plain d s e k f g get due = any_at (λ x. is_due d x g) (finals d s e) k f get due
 

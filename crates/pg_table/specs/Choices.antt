@@ -54,18 +54,18 @@ answer d f r = if has_class class.Inv d f then act.Ack ∷ [] else if has_class 
 abbrev pub answered : Draft → ℕ → ℕ → (ℕ → Desc) → List Choice
 answered d s f onward = if is_due d s f then given (take_row d s f) (λ t. only (answer d f t.reply) (onward t.next)) else []
 
--- a forward may come behind an operation that began in this state: one that is due where the operation ends, or was kept
+-- a later forward may come: one that is due where the operation that began in this state ends, or was kept
 abbrev pub is_later : Draft → ℕ → Event → Tag → ℕ → Bool
 is_later d s event Plain f = list_any (λ x. is_due d x f) (finals d s event)
 is_later d s event Kept f = list_any (λ x. may_keep d x && option_map_or (λ k. is_due d k f) (keep_of d x) false) (finals d s event)
 is_later d s event Gave f = false
 is_later d s event Gone f = false
 
--- the tag once a forward has come behind
+-- the tag once a later forward has come
 abbrev pub tag_by : Draft → ℕ → Tag
 tag_by d f = if has_class class.Share d f then Gave else if has_class class.Keep d f then Kept else Gone
 
--- a forward that comes behind waits; or an inv is acknowledged at once, and another is put off
+-- a later forward waits; or an inv is acknowledged at once, and another is put off
 abbrev pub later : Draft → ℕ → Event → Phase → Tag → ℕ → List Choice
 later d s event phase tag f = if is_later d s event tag f
     then record { acts = act.Stall ∷ []; next = Ask event s phase tag }
@@ -100,7 +100,7 @@ when_stable d s _ = []
 
 -- Outstanding operations
 
--- those that came behind are answered once the operation is done
+-- later forwards that were put off are answered once the operation is done
 abbrev pub serves : Tag → List Act
 serves Plain = []
 serves _ = act.Serve ∷ []

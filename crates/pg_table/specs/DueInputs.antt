@@ -16,7 +16,7 @@ use Rattle.pg_table.specs.declared.cache.Input.TheVariants as at
 use Rattle.pg_table.specs.Descriptors.{after, finals}
 use Rattle.pg_table.specs.Choices.{is_later, is_earlier, store_final}
 
--- the operation may end under its tag: there is a final state, and what has come behind the operation may come to that
+-- the operation may end under its tag: there is a final state, and the later forwards may come to that
 abbrev pub may_end : Draft → Tag → Option ℕ → Bool
 may_end d tag o = option_map_or (λ x. is_some (after d x tag)) o false
 
@@ -27,7 +27,7 @@ is_due_input d (Stable s) (at.Core event) = true
 is_due_input d (Stable s) (at.Forward f) = is_due d s f
 -- a load gets data with which it may end
 is_due_input d (Ask Load s D tag) (at.DataAll r) = may_end d tag (final d s Load (reply.Reply r))
--- and a forward that comes behind
+-- and a later forward
 is_due_input d (Ask Load s D tag) (at.Forward f) = is_later d s Load tag f
 -- a store that waits for data gets data with which it may end
 is_due_input d (Ask Store s Ad tag) (at.DataAll r) = may_end d tag (final d s Store (reply.Reply r))
@@ -35,7 +35,7 @@ is_due_input d (Ask Store s Ad tag) (at.DataAll r) = may_end d tag (final d s St
 is_due_input d (Ask Store s Ad tag) (at.DataPart r) = is_some (shared d) && is_some (final d s Store (reply.Reply r))
 -- or acknowledgements first
 is_due_input d (Ask Store s Ad tag) at.AckMore = is_some (shared d)
--- and a forward that comes behind, or before and is due
+-- and a later forward, or an earlier one that is due
 is_due_input d (Ask Store s Ad tag) (at.Forward f) = is_later d s Store tag f || is_earlier d s tag f && is_due d s f
 -- a store that waits for a count gets it
 is_due_input d (Ask Store s Ac tag) at.CountAll = true
@@ -49,7 +49,7 @@ is_due_input d (Ask Store s Ac tag) (at.Forward f) = is_due d s f
 is_due_input d (Ask Store s A tag) at.AckMore = true
 -- or the last, with which it may end
 is_due_input d (Ask Store s A tag) at.AckLast = may_end d tag (store_final (finals d s Store))
--- and a forward that comes behind
+-- and a later forward
 is_due_input d (Ask Store s A tag) (at.Forward f) = is_later d s Store tag f
 -- an evict gets its answer
 is_due_input d (Leave s) at.PutAck = true

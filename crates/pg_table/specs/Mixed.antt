@@ -49,7 +49,7 @@ abbrev pub acks_at_loads : Draft → Desc → Input → Mode
 acks_at_loads d (Ask Load s D tag) (at.Forward f) = if has_class class.Inv d f then mode.Defer else mode.Stall
 acks_at_loads d _ _ = mode.Stall
 
--- its states in MSI: those of mode stall, and that of a load which an inv has come behind
+-- its states in MSI: those of mode stall, and that of a load that has met a later inv
 abbrev pub msi_mix : List Desc
 msi_mix = Stable 0 ∷ Stable 1 ∷ Stable 2 ∷ Ask Load 0 D Plain ∷ Ask Load 0 D Gone ∷ Ask Store 0 Ad Plain ∷ Ask Store 0 A Plain
     ∷ Ask Store 1 Ad Plain ∷ Ask Store 1 A Plain ∷ Leave 1 ∷ Leave 2 ∷ Leave 0 ∷ []

@@ -20,13 +20,13 @@ use Rattle.pg_table.specs.Choices.{is_later, is_earlier}
 
 -- Caches
 
--- a forward comes behind the operation that is outstanding: a load waits for data, or a store for data or acknowledgements, and the forward isn't
--- one that meets a store before its own
-abbrev pub comes_behind : Draft → Desc → Input → Bool
-comes_behind d (Ask Load s D tag) (at.Forward f) = is_later d s Load tag f
-comes_behind d (Ask Store s Ad tag) (at.Forward f) = not (is_earlier d s tag f) && is_later d s Store tag f
-comes_behind d (Ask Store s A tag) (at.Forward f) = is_later d s Store tag f
-comes_behind d _ _ = false
+-- a forward is later than the operation that is outstanding: a load waits for data, or a store for data or acknowledgements, and the forward isn't
+-- an earlier one
+abbrev pub is_later_at : Draft → Desc → Input → Bool
+is_later_at d (Ask Load s D tag) (at.Forward f) = is_later d s Load tag f
+is_later_at d (Ask Store s Ad tag) (at.Forward f) = not (is_earlier d s tag f) && is_later d s Store tag f
+is_later_at d (Ask Store s A tag) (at.Forward f) = is_later d s Store tag f
+is_later_at d _ _ = false
 
 -- a cache lets its message wait
 abbrev pub is_stall : Act → Bool

@@ -23,7 +23,7 @@ ghost use Rattle.pg_table.specs.Descriptors.{descs};
 ghost use Rattle.pg_table.specs.Choices.{Choice, tag_by, choices};
 ghost use Rattle.pg_table.specs.Generated.{inputs, chosen, row_for, rows_of, generated};
 ghost use Rattle.pg_table.specs.Mixed.{mixed_table, IsMix};
-ghost use Rattle.pg_table.specs.Stalls.{comes_behind, is_stall};
+ghost use Rattle.pg_table.specs.Stalls.{is_later_at, is_stall};
 ghost use Rattle.pg_table.specs.Tables.{same_desc, number_of, same_input, find_row, table_row, cache_table, home_table};
 ghost use Rattle.pg_table.specs.Sound.{is_among, rows_for, Follows, IsSoundCache, IsSound};
 
@@ -88,20 +88,19 @@ pub fn sound_tables_answer()
         → choices d s.desc i ≡ [] → find_row t n i ≡ None }
 {}
 
-/// Where a forward comes behind the operation of a cache there are two choices: it waits, and the state stays the same, or it is taken at once, an inv
+/// Where a forward is later than the operation of a cache there are two choices: it waits, and the state stays the same, or it is taken at once, an inv
 /// by an acknowledgement and another by being put off, and the state's tag tells which has come. Elsewhere there is one choice at most. So where
-/// forwards wait, a cache lets exactly those wait that come behind its operation, and does nothing else with them; where they are put off, it lets none
-/// wait.
-pub fn after_forwards_stall()
-    ensures both { (d : Draft) (e : Event) (x : ℕ) (p : Phase) (t : Tag) (f : ℕ) → comes_behind d (Ask e x p t) (at.Forward f) ≡ true
+/// forwards wait, a cache lets exactly the later ones wait, and does nothing else with them; where they are put off, it lets none wait.
+pub fn later_forwards_stall()
+    ensures both { (d : Draft) (e : Event) (x : ℕ) (p : Phase) (t : Tag) (f : ℕ) → is_later_at d (Ask e x p t) (at.Forward f) ≡ true
         → choices d (Ask e x p t) (at.Forward f) ≡ record { acts = act.Stall ∷ []; next = Ask e x p t }
         ∷ record { acts = (if has_class class.Inv d f then act.Ack else act.Defer) ∷ []; next = Ask e x p (tag_by d f) } ∷ [] }
-    ensures forwards { (d : Draft) (s : Desc) (i : Input) → comes_behind d s i ≡ true
+    ensures forwards { (d : Draft) (s : Desc) (i : Input) → is_later_at d s i ≡ true
         → (e : Event) × (x : ℕ) × (p : Phase) × (t : Tag) × (f : ℕ) × (s ≡ Ask e x p t) × (i ≡ at.Forward f) }
-    ensures one { (d : Draft) (s : Desc) (i : Input) → comes_behind d s i ≡ false → (choices d s i ≡ []) ⊎ ((c : Choice) × (choices d s i ≡ c ∷ [])) }
+    ensures one { (d : Draft) (s : Desc) (i : Input) → is_later_at d s i ≡ false → (choices d s i ≡ []) ⊎ ((c : Choice) × (choices d s i ≡ c ∷ [])) }
     ensures stalls { (d : Draft) (s : Desc) (i : Input) (c : Choice) → chosen mode.Stall (choices d s i) ≡ Some c
-        → ((c.acts ≡ act.Stall ∷ []) ↔ (comes_behind d s i ≡ true)) }
-    ensures others { (d : Draft) (m : Mode) (s : Desc) (i : Input) (c : Choice) → chosen m (choices d s i) ≡ Some c → comes_behind d s i ≡ false
+        → ((c.acts ≡ act.Stall ∷ []) ↔ (is_later_at d s i ≡ true)) }
+    ensures others { (d : Draft) (m : Mode) (s : Desc) (i : Input) (c : Choice) → chosen m (choices d s i) ≡ Some c → is_later_at d s i ≡ false
         → list_any is_stall c.acts ≡ false }
     ensures put_off { (d : Draft) (s : Desc) (i : Input) (c : Choice) → chosen mode.Defer (choices d s i) ≡ Some c → list_any is_stall c.acts ≡ false }
 {}

@@ -25,14 +25,14 @@ pub use home_laws::{
     home_table_answers,
 };
 pub use laws::{
-    after_forwards_stall, generated_tables_are_sound, inputs_are_listed_once,
+    generated_tables_are_sound, inputs_are_listed_once, later_forwards_stall,
     mixed_tables_are_sound, rows_are_for_one_input, rows_lead_to_states, sound_tables_answer,
     states_are_told_apart, states_have_numbers, states_of_both_modes,
 };
 pub use table::{Table, TableState};
 pub use table_laws::{
     deferring_tables_never_stall, home_tables_have_one_row, home_tables_stall_when_busy,
-    stalling_tables_stall_after_forwards, tags_tell_the_state,
+    stalling_tables_stall_later_forwards, tags_tell_the_state,
 };
 pub use tables::Tables;
 pub use worked::{worked_mix, worked_states, worked_tables};

@@ -24,7 +24,7 @@ ghost use Rattle.pg_table.specs.declared.dir_table.DirTableState.{DirTableState}
 ghost use Rattle.pg_table.specs.Descriptors.{after, finals};
 ghost use Rattle.pg_table.specs.Choices.{is_later, tag_by};
 ghost use Rattle.pg_table.specs.Home.{home_descs, HomeChoice, home_choice};
-ghost use Rattle.pg_table.specs.Stalls.{comes_behind, is_stall, is_asked_busy, is_dir_stall};
+ghost use Rattle.pg_table.specs.Stalls.{is_later_at, is_stall, is_asked_busy, is_dir_stall};
 ghost use Rattle.pg_table.specs.Tables.{has_dir_input, cache_table, home_row, home_table};
 ghost use Rattle.pg_table.specs.Sound.{rows_for};
 
@@ -52,15 +52,15 @@ pub fn deferring_tables_never_stall()
         → list_any is_stall r.acts ≡ false }
 {}
 
-/// Where forwards wait, exactly the rows of a cache controller let one wait that are for a forward which comes behind the operation. Each such forward
-/// has that row alone, which does nothing else and stays in its state.
-pub fn stalling_tables_stall_after_forwards()
+/// Where forwards wait, exactly the rows of a cache controller let one wait that are for a forward later than the operation. Each such forward has that
+/// row alone, which does nothing else and stays in its state.
+pub fn stalling_tables_stall_later_forwards()
     ensures stalls { (d : Draft) (n k : ℕ) (s : TableState) (r : Row) (i : Input) → slice_get (cache_table d mode.Stall) n ≡ Some s
-        → slice_get s.rows k ≡ Some r → r.inputs ≡ i ∷ [] → ((r.acts ≡ act.Stall ∷ []) ↔ (comes_behind d s.desc i ≡ true)) }
+        → slice_get s.rows k ≡ Some r → r.inputs ≡ i ∷ [] → ((r.acts ≡ act.Stall ∷ []) ↔ (is_later_at d s.desc i ≡ true)) }
     ensures others { (d : Draft) (n k : ℕ) (s : TableState) (r : Row) (i : Input) → slice_get (cache_table d mode.Stall) n ≡ Some s
-        → slice_get s.rows k ≡ Some r → r.inputs ≡ i ∷ [] → comes_behind d s.desc i ≡ false → list_any is_stall r.acts ≡ false }
+        → slice_get s.rows k ≡ Some r → r.inputs ≡ i ∷ [] → is_later_at d s.desc i ≡ false → list_any is_stall r.acts ≡ false }
     ensures row { (d : Draft) (n : ℕ) (s : TableState) (i : Input) → IsWellFormed d → IsShaped d → slice_get (cache_table d mode.Stall) n ≡ Some s
-        → comes_behind d s.desc i ≡ true → rows_for i s.rows ≡ record { inputs = i ∷ []; acts = act.Stall ∷ []; next = n } ∷ [] }
+        → is_later_at d s.desc i ≡ true → rows_for i s.rows ≡ record { inputs = i ∷ []; acts = act.Stall ∷ []; next = n } ∷ [] }
 {}
 
 /// A state of the directory's table has for an input the row of the directory's choice and no other, and none where there is no choice; and each row is

@@ -92,7 +92,7 @@ pub fn worked_tables()
 {}
 
 /// Rows of MOSI and MOESI, as a person works them out. In MOSI, where forwards are put off, those of a store of the owner that may only read, which
-/// waits for a count and then for acknowledgements, also once a forward that keeps it an owner has come behind it; and the whole table of the
+/// waits for a count and then for acknowledgements, also once it has met a later forward that keeps it an owner; and the whole table of the
 /// directory. In MOESI, where forwards are put off, those of a load; no forward of MOESI gives a copy to memory, so a load has three states.
 pub fn worked_rows()
     ensures mosi_om_ac { rows_of mosi mode.Defer (desc.Ask event.Store 2 phase.Ac tag.Plain) ≡
@@ -133,8 +133,8 @@ pub fn worked_rows()
         record { input = at.DataAll 10; choice = record { acts = act.Fill ∷ act.Done ∷ act.Serve ∷ []; next = desc.Stable 0 } } ∷ [] }
 {}
 
-/// A mixed table of MSI: a load acknowledges an inv that comes behind it at once, and every other forward waits. So it has one state more than where
-/// all wait, that of a load which an inv has come behind. The rows of the load and of that state are as a person works them out, the others are those
+/// A mixed table of MSI: a load acknowledges a later inv at once, and every other later forward waits. So it has one state more than where
+/// all wait, that of a load that has met a later inv. The rows of the load and of that state are as a person works them out, the others are those
 /// of the table where all wait, and the table is sound.
 pub fn worked_mix()
     ensures states { msi_mix ≡ take 4 (descs msi mode.Stall) ++ desc.Ask event.Load 0 phase.D tag.Gone ∷ [] ++ drop 4 (descs msi mode.Stall) }

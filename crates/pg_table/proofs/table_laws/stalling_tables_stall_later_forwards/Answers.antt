@@ -1,5 +1,5 @@
 use Rattle.pg_table.proofs.TableRows.{behind_stalls, others_no_stall, behind_row}
-use Rattle.pg_table.proofs.table_laws.stalling_tables_stall_after_forwards.Goals as goal
+use Rattle.pg_table.proofs.table_laws.stalling_tables_stall_later_forwards.Goals as goal
 
 pub returns-clause-stalls : goal.returns-clause-stalls
 returns-clause-stalls c = behind_stalls

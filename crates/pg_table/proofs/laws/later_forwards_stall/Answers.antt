@@ -1,6 +1,6 @@
 use Rattle.pg_table.proofs.Stalls.{both_choices, forwards_behind, stalls, others_go_on, none_waits}
 use Rattle.pg_table.proofs.OneChoice.{single_choice}
-use Rattle.pg_table.proofs.laws.after_forwards_stall.Goals as goal
+use Rattle.pg_table.proofs.laws.later_forwards_stall.Goals as goal
 
 pub returns-clause-both : goal.returns-clause-both
 returns-clause-both c = both_choices
