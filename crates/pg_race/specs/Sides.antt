@@ -1,5 +1,5 @@
 -- On which side of the outstanding transaction of a cache that of a forward stands which the cache meets.
-use Rattle.std.specs.Prelude.{◌≡◌, ◌⊎◌, Bool, true, false}
+use Rattle.std.specs.Prelude.{◌≡◌, Bool, true, false}
 use Rattle.pg_perm.specs.declared.kinds.Role.{Role}
 use Rattle.pg_perm.specs.declared.kinds.Role.TheVariants as role
 use Rattle.pg_perm.specs.declared.kinds.Event.{Event}
