@@ -9,7 +9,6 @@ use std::alloc::{AllocError, Global};
 use std::fmt::Write;
 use std::process::Abort;
 use std::test::Fail;
-use tables::{MI_DEFER, MI_STALL, MSI_DEFER, MSI_STALL};
 use texts::{MESI, MI, MIGRATORY, MOESI, MOSI, MSI, VISIBLE};
 
 mod histories;
@@ -408,13 +407,8 @@ fn a_machine_makes_its_steps(rt: HostRuntime) -> Result<(), Fail> {
 #[test]
 fn tables_are_those_worked_by_hand(rt: HostRuntime) -> Result<(), Fail> {
     let alloc = rt.alloc();
-    for (text, mode, wanted) in [
-        (MI, "stall", MI_STALL),
-        (MI, "defer", MI_DEFER),
-        (MSI, "stall", MSI_STALL),
-        (MSI, "defer", MSI_DEFER),
-    ] {
-        let input = text.as_bytes().to_vec(alloc)?;
+    for (base, mode, wanted) in tables::WORKED {
+        let input = base.text().as_bytes().to_vec(alloc)?;
         let (status, written) = run(alloc, &["compile", "--mode", mode], input)?;
         assert_eq!(rt; status, Status::Done, "{wanted}");
         assert_eq!(rt; written.as_slice(), wanted.as_bytes(), "{wanted}");

@@ -1,31 +1,6 @@
 //! Scripts on protocols, and their histories on the atomic machine, worked by hand.
 
-use super::texts::{MESI, MI, MIGRATORY, MOESI, MOSI, MSI, VISIBLE};
-
-/// The protocol of a case.
-pub enum Base {
-    Mi,
-    Msi,
-    Mesi,
-    Mosi,
-    Moesi,
-    Migratory,
-    Visible,
-}
-
-impl Base {
-    pub fn text(&self) -> &'static str {
-        match self {
-            Base::Mi => MI,
-            Base::Msi => MSI,
-            Base::Mesi => MESI,
-            Base::Mosi => MOSI,
-            Base::Moesi => MOESI,
-            Base::Migratory => MIGRATORY,
-            Base::Visible => VISIBLE,
-        }
-    }
-}
+use super::texts::Base;
 
 /// What a case meets, the protocol, the script, and the histories of its blocks.
 pub type History = (&'static str, Base, &'static str, &'static str);

@@ -1,28 +1,7 @@
 //! Texts that each break a rule of the shape, and their first faults.
 
-use super::texts::{MESI, MI, MOESI, MOSI, MSI};
+use super::texts::Base;
 use pg_perm::Rule::{self, *};
-
-/// The protocol of which a case is an edit.
-pub enum Base {
-    Mi,
-    Msi,
-    Mesi,
-    Mosi,
-    Moesi,
-}
-
-impl Base {
-    pub fn text(&self) -> &'static str {
-        match self {
-            Base::Mi => MI,
-            Base::Msi => MSI,
-            Base::Mesi => MESI,
-            Base::Mosi => MOSI,
-            Base::Moesi => MOESI,
-        }
-    }
-}
 
 /// What a case is called, the text of which it is an edit, the lines that are replaced (by none, one or more lines, each with its newline), and the first fault.
 pub type Case = (

@@ -1,6 +1,18 @@
 //! Tables as a person works them out.
 
-pub const MI_STALL: &str = "table MI stall
+use super::texts::Base;
+
+/// A protocol, a mode, and its table.
+pub type Worked = (Base, &'static str, &'static str);
+
+pub const WORKED: &[Worked] = &[
+    (Base::Mi, "stall", MI_STALL),
+    (Base::Mi, "defer", MI_DEFER),
+    (Base::Msi, "stall", MSI_STALL),
+    (Base::Msi, "defer", MSI_DEFER),
+];
+
+const MI_STALL: &str = "table MI stall
 state I
 state M
 state IM_D
@@ -33,7 +45,7 @@ at M evict.none putack -> M
 end
 ";
 
-pub const MI_DEFER: &str = "table MI defer
+const MI_DEFER: &str = "table MI defer
 state I
 state M
 state IM_D
@@ -70,7 +82,7 @@ at M evict.none putack -> M
 end
 ";
 
-pub const MSI_STALL: &str = "table MSI stall
+const MSI_STALL: &str = "table MSI stall
 state I
 state S
 state M
@@ -145,7 +157,7 @@ at S_D WbData write -> S
 end
 ";
 
-pub const MSI_DEFER: &str = "table MSI defer
+const MSI_DEFER: &str = "table MSI defer
 state I
 state S
 state M

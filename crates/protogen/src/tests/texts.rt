@@ -1,5 +1,30 @@
 //! The texts of protocols, of which the cases are edits.
 
+/// A protocol, of which a case has the text or an edit of it.
+pub enum Base {
+    Mi,
+    Msi,
+    Mesi,
+    Mosi,
+    Moesi,
+    Migratory,
+    Visible,
+}
+
+impl Base {
+    pub fn text(&self) -> &'static str {
+        match self {
+            Base::Mi => MI,
+            Base::Msi => MSI,
+            Base::Mesi => MESI,
+            Base::Mosi => MOSI,
+            Base::Moesi => MOESI,
+            Base::Migratory => MIGRATORY,
+            Base::Visible => VISIBLE,
+        }
+    }
+}
+
 pub const MI: &str = "protocol MI
 cache I out none
 cache M owner write
