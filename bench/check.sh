@@ -1,7 +1,9 @@
 #!/usr/bin/env bash
-# Times `check` beside `LC_ALL=C wc -w` on the same bytes, on three inputs: MSI with newlines behind it up to 1,048,576 bytes, a text of
-# 512 core lines with as many words as a line may have, and a text at each limit, with 16 cache lines, 16 dir lines of 80 words, 32
-# messages and 512 core, take and row lines; the last two break a rule of the shape. Run it after the program was proved and built. Each is run often, and the fastest run counts.
+# Times `check` beside `LC_ALL=C wc -w` on the same bytes, on four inputs: MSI with newlines behind it up to 1,048,576 bytes, a text of 512 core
+# lines with as many words as a line may have, a text at each limit, with 16 cache lines, 16 dir lines of 80 words, 32 messages and 512 core, take and
+# row lines, and the text at the limits of bench/limits.awk with as many core lines of 80 words more as there may be. The second and the third break a
+# rule of the shape in line 1, and the last keeps the shape up to the first of the lines that it has more, which is line 105. Run it after the
+# program was proved and built. Each is run often, and the fastest run counts.
 cd "$(dirname "$0")/.." || exit 2
 program=crates/protogen/out/protogen
 [ -x "$program" ] || { echo "bench: build the program first, by ./protogen" >&2; exit 2; }
@@ -39,7 +41,8 @@ BEGIN {
     for (k = 0; k < 56; k++) print "row " name("S", k % 16) " " name("R", k % 10) " other " name("F", k % 11) " " name("S", k % 16)
     print "end"
 }' >"$folder/limits"
-PYTHONPATH=bench PYTHONDONTWRITEBYTECODE=1 python3 - "$program" "$folder/newlines" "$folder/lines" "$folder/limits" <<'PYTHON'
+awk -v more=357 -f bench/limits.awk >"$folder/shape"
+PYTHONPATH=bench PYTHONDONTWRITEBYTECODE=1 python3 - "$program" "$folder/newlines" "$folder/lines" "$folder/limits" "$folder/shape" <<'PYTHON'
 import os, sys
 from fastest import fastest, words
 program = sys.argv[1]
