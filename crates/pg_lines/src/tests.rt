@@ -32,7 +32,8 @@ fn lines_and_words_are_cut(rt: HostRuntime) -> Result<(), Fail> {
         let second = rest.first().map(|(word, _)| word);
         assert_eq!(rt; first, wanted_first, "{line:?}");
         assert_eq!(rt; second, wanted_second, "{line:?}");
-        assert!(rt; words.again().first().is_some());
+        let again = words.again().first().map(|(word, _)| word);
+        assert_eq!(rt; again, Some(wanted_first), "{line:?}");
     }
     Ok(())
 }

@@ -19,7 +19,7 @@ use Rattle.pg_perm.specs.declared.kinds.Event.TheVariants.{Load, Store, Evict}
 use Rattle.pg_perm.specs.declared.draft.Draft.{Draft}
 use Rattle.pg_perm.specs.Drafts.{cache_names, dir_names, message_names}
 
--- The words by which a text and a history call the kinds
+-- The words by which texts, tables and histories call the kinds
 
 abbrev pub role_word : Role → List ℕ
 role_word Out = codes "out"

@@ -97,12 +97,12 @@ pub enum Left {
     More,
 }
 
-/// What a generated cache does with a forward that its own transaction comes before.
+/// What a generated cache does with a forward that is later than its own transaction.
 #[derive(Clone, Copy, Debug, PartialEq, Eq)]
 pub enum Mode {
     /// It lets the forward wait until its own transaction is done.
     Stall,
-    /// It takes the forward at once, and answers it when its own transaction is done.
+    /// It takes the forward at once: it acknowledges an inv, and answers another when its own transaction is done.
     Defer,
 }
 

@@ -1,4 +1,4 @@
-//! The words by which a text and a history call the kinds.
+//! The words by which texts, tables and histories call the kinds.
 ghost use Rattle.std.specs.Prelude.{◌≡◌};
 ghost use Rattle.pg_perm.specs.Words as word;
 

@@ -1,5 +1,5 @@
--- What a cache controller may do in a state at an input. Where a forward comes after the outstanding operation it may let it wait or take it at
--- once; else there is one choice, or none where the input can't come.
+-- What a cache controller may do in a state at an input. It may let a forward that is later than the outstanding operation wait or take it at once;
+-- else there is one choice, or none where the input can't come.
 use Rattle.std.specs.Prelude.{ℕ, Bool, false, ◌&&◌, List, [], ◌∷◌, ◌++◌, Option, Some, None, is_some, if◌then◌else◌}
 use Rattle.std.specs.List.{list_any}
 use Rattle.std.specs.Option.{option_map_or, option_and_then}
@@ -118,7 +118,7 @@ when_loading d s tag (at.DataAll r) = ends d tag (act.Fill ∷ []) (final d s Lo
 when_loading d s tag (at.Forward f) = later d s Load D tag f
 when_loading d s tag _ = []
 
--- a forward that comes before the own store is answered as where the store began, and moves that
+-- an earlier forward is answered as where the store began, and moves that
 abbrev pub earlier : Draft → ℕ → ℕ → List Choice
 earlier d s f = answered d s f (λ t. Ask Store t (store_phase d t) Plain)
 

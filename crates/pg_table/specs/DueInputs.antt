@@ -43,7 +43,7 @@ is_due_input d (Ask Store s Ac tag) at.CountAll = true
 is_due_input d (Ask Store s Ac tag) at.CountPart = is_some (shared d)
 -- or acknowledgements first
 is_due_input d (Ask Store s Ac tag) at.AckMore = is_some (shared d)
--- and a forward that is due where it began, which comes before
+-- and an earlier forward, which is due where it began
 is_due_input d (Ask Store s Ac tag) (at.Forward f) = is_due d s f
 -- a store that waits for acknowledgements gets one of them
 is_due_input d (Ask Store s A tag) at.AckMore = true

@@ -1,5 +1,5 @@
--- MI, MSI, MESI, MOSI and MOESI, as drafts.
-use Rattle.std.specs.Prelude.{true, false, [], ◌∷◌, codes, Some, None}
+-- MI, MSI, MESI, MOSI and MOESI, as drafts, and the states of a mixed table.
+use Rattle.std.specs.Prelude.{true, false, List, [], ◌∷◌, codes, Some, None, if◌then◌else◌}
 use Rattle.pg_perm.specs.declared.kinds.Role.TheVariants as role
 use Rattle.pg_perm.specs.declared.kinds.Perm.TheVariants as perm
 use Rattle.pg_perm.specs.declared.kinds.DirKind.TheVariants as kind
@@ -8,12 +8,21 @@ use Rattle.pg_perm.specs.declared.kinds.FwdClass.TheVariants as class
 use Rattle.pg_perm.specs.declared.kinds.Event.TheVariants.{Load, Store, Evict}
 use Rattle.pg_perm.specs.declared.kinds.Who.TheVariants as who
 use Rattle.pg_perm.specs.declared.kinds.Left.TheVariants as left
+use Rattle.pg_perm.specs.declared.kinds.Mode.{Mode}
+use Rattle.pg_perm.specs.declared.kinds.Mode.TheVariants as mode
 use Rattle.pg_perm.specs.declared.draft.Draft.{Draft}
 use Rattle.pg_perm.specs.declared.draft.MsgClass.TheVariants.{Request, Forward, Reply}
 use Rattle.pg_perm.specs.declared.draft.CoreForm.TheVariants.{Hit, Ask, Leave}
 use Rattle.pg_perm.specs.declared.draft.ReplyName.TheVariants as names
 use Rattle.pg_perm.specs.declared.draft.RowForm.TheVariants as row
 use Rattle.pg_perm.specs.declared.draft.Action.TheVariants as action
+use Rattle.pg_terms.specs.Terms.{has_class}
+use Rattle.pg_table.specs.declared.cache.Desc.{Desc}
+use Rattle.pg_table.specs.declared.cache.Desc.TheVariants as desc
+use Rattle.pg_table.specs.declared.cache.Phase.TheVariants as phase
+use Rattle.pg_table.specs.declared.cache.Tag.TheVariants as tag
+use Rattle.pg_table.specs.declared.cache.Input.{Input}
+use Rattle.pg_table.specs.declared.cache.Input.TheVariants as at
 
 abbrev pub mi : Draft
 mi = record {
@@ -282,3 +291,16 @@ moesi = record {
       record { line = 59; dir = 3; form = row.Ask 1 who.Other (action.Forward 8); next = 3 } ∷
       record { line = 60; dir = 3; form = row.Evict who.Owner left.Last; next = 0 } ∷ [];
 }
+
+-- A mixed table of MSI
+
+-- a load acknowledges a later inv at once, and every other later forward waits
+abbrev pub acks_at_loads : Draft → Desc → Input → Mode
+acks_at_loads d (desc.Ask Load s phase.D tag) (at.Forward f) = if has_class class.Inv d f then mode.Defer else mode.Stall
+acks_at_loads d _ _ = mode.Stall
+
+-- its states in MSI: those of mode stall, and that of a load that has met a later inv
+abbrev pub msi_mix : List Desc
+msi_mix = desc.Stable 0 ∷ desc.Stable 1 ∷ desc.Stable 2 ∷ desc.Ask Load 0 phase.D tag.Plain ∷ desc.Ask Load 0 phase.D tag.Gone
+    ∷ desc.Ask Store 0 phase.Ad tag.Plain ∷ desc.Ask Store 0 phase.A tag.Plain ∷ desc.Ask Store 1 phase.Ad tag.Plain ∷ desc.Ask Store 1 phase.A tag.Plain
+    ∷ desc.Leave 1 ∷ desc.Leave 2 ∷ desc.Leave 0 ∷ []

@@ -5,14 +5,14 @@ use pg_perm::{Event, Sequence};
 pub enum Desc {
     /// No operation is outstanding.
     Stable(u8),
-    /// A load or a store waits for its answer; it began in the state `start`, or forwards that came before it have led it there since.
+    /// A load or a store waits for its answer; it began in the state `start`, or earlier forwards have led it there since.
     Ask {
         event: Event,
         start: u8,
         phase: Phase,
         tag: Tag,
     },
-    /// An evict waits for its answer; it began in this state, or forwards have led it there since.
+    /// An evict waits for its answer; it began in this state, or earlier forwards have led it there since.
     Leave(u8),
 }
 
@@ -29,7 +29,7 @@ pub enum Phase {
     A,
 }
 
-/// What the forwards that come after an outstanding operation have made of the state in which it will end.
+/// What the forwards that are later than an outstanding operation have made of the state in which it will end.
 #[derive(Clone, Copy, Debug, PartialEq, Eq)]
 pub enum Tag {
     /// None has come.
@@ -48,15 +48,19 @@ pub enum Input {
     /// An operation of its core.
     Core(Event),
     Forward(u8),
-    /// A count that equals the acknowledgements got so far, and one that doesn't.
+    /// The number of acknowledgements that are needed, which is the number of those got so far.
     CountAll,
+    /// That number, which isn't the number of those got so far.
     CountPart,
+    /// The answer to an evict.
     PutAck,
-    /// Data with a count that equals the acknowledgements got so far, and data with one that doesn't.
+    /// This reply, with a number of acknowledgements that is the number of those got so far.
     DataAll(u8),
+    /// This reply, with a number of acknowledgements that isn't the number of those got so far.
     DataPart(u8),
-    /// An acknowledgement with which those that are known to be needed are all there, and, first, any other.
+    /// An acknowledgement, after which some are still missing or the number isn't known.
     AckMore,
+    /// An acknowledgement, with which all that are needed are there.
     AckLast,
 }
 
@@ -77,13 +81,13 @@ pub enum Act {
     Wb,
     /// The data that came is taken.
     Fill,
-    /// The count that came says how many acknowledgements are needed.
+    /// The number that came says how many acknowledgements are needed.
     Need,
     /// One more acknowledgement is got.
     Count,
     /// The outstanding operation is done.
     Done,
-    /// The forward is put last among those to be answered later.
+    /// The forward is put last among those to be answered once the operation is done.
     Defer,
     /// Those are answered, in their order.
     Serve,

@@ -3,6 +3,7 @@ use pg_perm::{Left, ReqClass, Sequence, Who};
 /// A state of the directory controller.
 #[derive(Clone, Copy, Debug, PartialEq, Eq)]
 pub enum DirDesc {
+    /// It is in this state, and waits for nothing.
     State(u8),
     /// It waits for the data that an owner writes back, and then goes to this state.
     Busy(u8),

@@ -21,7 +21,7 @@ ghost use Rattle.pg_table.specs.declared.cache.Row.{Row};
 ghost use Rattle.pg_table.specs.declared.table.TableState.{TableState};
 ghost use Rattle.pg_table.specs.Descriptors.{descs};
 ghost use Rattle.pg_table.specs.Choices.{Choice, tag_by, choices};
-ghost use Rattle.pg_table.specs.Generated.{inputs, chosen, row_for, rows_of, generated};
+ghost use Rattle.pg_table.specs.Generated.{inputs, chosen, row_for, rows_of};
 ghost use Rattle.pg_table.specs.Mixed.{mixed_table, IsMix};
 ghost use Rattle.pg_table.specs.Stalls.{is_later_at, is_stall};
 ghost use Rattle.pg_table.specs.Tables.{same_desc, number_of, same_input, find_row, table_row, cache_table, home_table};

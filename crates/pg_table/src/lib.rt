@@ -1,6 +1,6 @@
 //! The tables of the generated controllers: states, inputs, acts and rows, and which of them a protocol asks for.
 //!
-//! docs/TABLES.md has them by an example.
+//! docs/TABLES.md has them.
 #![tactic(auto)]
 
 mod cache;
@@ -16,10 +16,10 @@ mod tables;
 mod tests;
 mod worked;
 
-pub use cache::{Act, Acts, Desc, Input, Inputs, Phase, Row, Rows, Tag};
+pub use cache::{Act, Acts, Desc, Input, Phase, Row, Tag};
 pub use dir_table::{DirTable, DirTableState};
 pub use due_laws::{inputs_that_may_come, sound_tables_pick, stores_may_end};
-pub use home::{DirAct, DirActs, DirDesc, DirInput, DirInputs, DirRow, DirRows};
+pub use home::{DirAct, DirActs, DirDesc, DirInput, DirRow};
 pub use home_laws::{
     busy_states_have_rows, home_cases_have_rows, home_rows_lead_to_states, home_stalls_when_busy,
     home_table_answers,
@@ -35,4 +35,4 @@ pub use table_laws::{
     stalling_tables_stall_later_forwards, tags_tell_the_state,
 };
 pub use tables::Tables;
-pub use worked::{worked_mix, worked_states, worked_tables};
+pub use worked::{worked_mix, worked_rows, worked_states, worked_tables};

@@ -81,6 +81,7 @@ impl Table {
         self.states.len() as u16
     }
 
+    /// The state with this number, from 0.
     pub fn desc(&self, state: u16) -> Desc
         requires { state < length self.now }
         ensures { option_map (λ s. s.desc) (slice_get self.now state) ≡ Some result }

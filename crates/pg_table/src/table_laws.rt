@@ -29,8 +29,8 @@ ghost use Rattle.pg_table.specs.Tables.{has_dir_input, cache_table, home_row, ho
 ghost use Rattle.pg_table.specs.Sound.{rows_for};
 
 /// The tag of an operation tells the state in which it ends: a forward that is due there has its row, and its own tag tells the state that the row leads
-/// to, which for a keep behind a keep is the same. Behind an operation comes what is due there, for one of its final states, until the word is given to
-/// memory or gone; from then on nothing does.
+/// to, which for a keep after a keep is the same. A later forward may come where it is due there, for one of its final states, until the word is given
+/// to memory or gone; from then on none may.
 pub fn tags_tell_the_state()
     ensures leads { (d : Draft) (f : ℕ) (t : Tag) (x g : ℕ) → IsShaped d → after d f t ≡ Some x → is_due d x g ≡ true
         → (l : TakeLine) × (take_row d x g ≡ Some l) × (after d f (tag_by d g) ≡ Some l.next) }

@@ -50,6 +50,7 @@ impl Tables {
         })
     }
 
+    /// The protocol of which they are the tables.
     pub fn protocol(&self) -> &Protocol
         ensures exact { result.now ≡ self.now.protocol }
         ensures sound { IsSound self.now.protocol self.now.cache self.now.home }
@@ -57,6 +58,7 @@ impl Tables {
         &self.protocol
     }
 
+    /// The mode that they are called by. It says nothing of what they do.
     pub fn mode(&self) -> Mode
         ensures { result ≡ self.now.mode }
     {

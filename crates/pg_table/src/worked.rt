@@ -17,10 +17,10 @@ ghost use Rattle.pg_perm.specs.declared.kinds.ReqClass.TheVariants as asks;
 ghost use Rattle.pg_perm.specs.declared.kinds.Who.TheVariants as who;
 ghost use Rattle.pg_perm.specs.declared.kinds.Left.TheVariants as left;
 ghost use Rattle.pg_table.specs.Home.{home_generated};
-ghost use Rattle.pg_table.specs.Mixed.{mixed, mixed_table, acks_at_loads, msi_mix};
+ghost use Rattle.pg_table.specs.Mixed.{mixed, mixed_table};
 ghost use Rattle.pg_table.specs.Sound.{IsSound};
 ghost use Rattle.pg_table.specs.Tables.{home_table};
-ghost use Rattle.pg_table.specs.Worked.{mi, msi, mesi, mosi, moesi};
+ghost use Rattle.pg_table.specs.Worked.{mi, msi, mesi, mosi, moesi, acks_at_loads, msi_mix};
 
 /// The states of cache controllers, as a person counts them: of MSI, MESI and MOSI.
 pub fn worked_states()
@@ -142,6 +142,6 @@ pub fn worked_mix()
         record { desc = desc.Ask event.Load 0 phase.D tag.Plain; rows = record { input = at.Forward 4; choice = record { acts = act.Ack ∷ []; next = desc.Ask event.Load 0 phase.D tag.Gone } } ∷ record { input = at.DataAll 7; choice = record { acts = act.Fill ∷ act.Done ∷ []; next = desc.Stable 1 } } ∷ [] } ∷
         record { desc = desc.Ask event.Load 0 phase.D tag.Gone; rows = record { input = at.DataAll 7; choice = record { acts = act.Fill ∷ act.Done ∷ act.Serve ∷ []; next = desc.Stable 0 } } ∷ [] } ∷ [] }
     ensures before { take 3 (mixed msi (acks_at_loads msi) msi_mix) ≡ take 3 (generated msi mode.Stall) }
-    ensures behind { drop 5 (mixed msi (acks_at_loads msi) msi_mix) ≡ drop 4 (generated msi mode.Stall) }
+    ensures rest { drop 5 (mixed msi (acks_at_loads msi) msi_mix) ≡ drop 4 (generated msi mode.Stall) }
     ensures sound { IsSound msi (mixed_table msi (acks_at_loads msi) msi_mix) (home_table msi) }
 {}

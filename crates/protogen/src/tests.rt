@@ -59,8 +59,17 @@ fn breaks(line: u32, rule: Rule) -> Status {
 /// Numbers of lines, and what they are replaced by: none, one or more lines.
 type Edits = &'static [(usize, &'static str)];
 
-/// The text with these lines replaced.
-fn edited(alloc: Global, text: &str, edits: &[(usize, &str)]) -> Result<Vec<u8>, AllocError> {
+/// The text with these lines replaced, each of which it has.
+fn edited(
+    rt: &impl Abort,
+    alloc: Global,
+    text: &str,
+    edits: &[(usize, &str)],
+) -> Result<Vec<u8>, Fail> {
+    let lines = text.split_inclusive('\n').count();
+    for (number, _) in edits {
+        assert!(rt; 0 < *number && *number <= lines, "{number}");
+    }
     let mut result = Vec::new(alloc);
     for (line, number) in text.split_inclusive('\n').zip(1..100) {
         let line = match edits.iter().find(|edit| edit.0 == number) {
@@ -92,7 +101,7 @@ fn a_text_is_judged(rt: HostRuntime) -> Result<(), Fail> {
         (MSI, LATE_CACHE, breaks(17, Rule::F2), "line 17 rule F2\n"),
         (MSI, NO_SHARE, breaks(4, Rule::S13), "line 4 rule S13\n"),
     ] {
-        let (status, written) = check(alloc, edited(alloc, text, edits)?)?;
+        let (status, written) = check(alloc, edited(&rt, alloc, text, edits)?)?;
         assert_eq!(rt; status, wanted, "{line:?}");
         assert_eq!(rt; written.as_slice(), line.as_bytes(), "{line:?}");
     }
@@ -103,7 +112,7 @@ fn a_text_is_judged(rt: HostRuntime) -> Result<(), Fail> {
 fn a_text_that_is_cut_lacks_its_end(rt: HostRuntime) -> Result<(), Fail> {
     let alloc = rt.alloc();
     let mut text = Vec::new(alloc);
-    for (line, missing) in MSI.split_inclusive('\n').zip(1..37) {
+    for (line, missing) in MSI.split_inclusive('\n').zip(1..38) {
         let (status, _) = check(alloc, text.to_vec(alloc)?)?;
         assert_eq!(rt; status, breaks(missing, Rule::F6));
         text.extend_from_slice(line.as_bytes())?;
@@ -184,13 +193,13 @@ fn caches(alloc: Global, count: u32) -> Result<Vec<u8>, AllocError> {
 }
 
 /// MI with so many words in the line of its directory state M.
-fn long_line(alloc: Global, words: u32) -> Result<Vec<u8>, AllocError> {
+fn long_line(rt: &impl Abort, alloc: Global, words: u32) -> Result<Vec<u8>, Fail> {
     let mut line = String::from_str(alloc, "dir M owned")?;
     for _ in 3..words {
         line.push_str(" M")?;
     }
     line.push_str("\n")?;
-    edited(alloc, MI, &[(5, line.as_str())])
+    edited(rt, alloc, MI, &[(5, line.as_str())])
 }
 
 #[test]
@@ -199,8 +208,8 @@ fn texts_at_the_limits_are_judged(rt: HostRuntime) -> Result<(), Fail> {
     for (text, wanted) in [
         (caches(alloc, 16)?, breaks(1, Rule::S2)),
         (caches(alloc, 17)?, breaks(18, Rule::F5)),
-        (long_line(alloc, 80)?, breaks(5, Rule::S4)),
-        (long_line(alloc, 81)?, breaks(5, Rule::F5)),
+        (long_line(&rt, alloc, 80)?, breaks(5, Rule::S4)),
+        (long_line(&rt, alloc, 81)?, breaks(5, Rule::F5)),
     ] {
         let (status, _) = check(alloc, text)?;
         assert_eq!(rt; status, wanted);
@@ -221,7 +230,7 @@ fn each_protocol_is_one(rt: HostRuntime) -> Result<(), Fail> {
 /// Checks that each case has its first fault.
 fn tell(rt: &impl Abort, alloc: Global, cases: &[Case]) -> Result<(), Fail> {
     for (name, base, edits, (line, rule)) in cases {
-        let (status, _) = check(alloc, edited(alloc, base.text(), edits)?)?;
+        let (status, _) = check(alloc, edited(rt, alloc, base.text(), edits)?)?;
         assert_eq!(rt; status, breaks(*line, *rule), "{name}");
     }
     Ok(())
@@ -259,7 +268,7 @@ fn each_rule_of_the_shape_is_told(rt: HostRuntime) -> Result<(), Fail> {
 fn other_protocols_are_sound(rt: HostRuntime) -> Result<(), Fail> {
     let alloc = rt.alloc();
     for (name, base, edits) in shapes::SOUND {
-        let (status, _) = check(alloc, edited(alloc, base.text(), edits)?)?;
+        let (status, _) = check(alloc, edited(&rt, alloc, base.text(), edits)?)?;
         assert_eq!(rt; status, Status::Done, "{name}");
     }
     Ok(())
@@ -267,7 +276,7 @@ fn other_protocols_are_sound(rt: HostRuntime) -> Result<(), Fail> {
 
 /// MSI as a protocol.
 fn msi(rt: &impl Abort, alloc: Global) -> Result<Protocol, Fail> {
-    let text = edited(alloc, MSI, NO_EDITS)?;
+    let text = MSI.as_bytes().to_vec(alloc)?;
     assert!(rt; text.len() <= MOST_BYTES);
     let (draft, place) = pg_text::read(alloc, &text)?;
     assert_eq!(rt; place as usize, text.len());

@@ -1,4 +1,4 @@
-ghost use Rattle.std.specs.Prelude.{◌≡◌, ◌<◌, ◌≤◌, length, drop, IfOk};
+ghost use Rattle.std.specs.Prelude.{◌≡◌, ◌<◌, length, IfOk};
 ghost use Rattle.pg_perm.specs.Drafts.{IsWellFormed};
 ghost use Rattle.pg_shape.specs.FirstFaults.{shape_fault};
 ghost use Rattle.pg_script.specs.Texts.{reading as script_reading};

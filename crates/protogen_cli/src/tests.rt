@@ -3,11 +3,20 @@ use pg_perm::{Fault, Rule};
 use std::test::Fail;
 
 #[test]
-fn a_command_alone_is_taken(rt: HostRuntime) -> Result<(), Fail> {
+fn the_words_of_commands_are_taken(rt: HostRuntime) -> Result<(), Fail> {
     let alloc = rt.alloc();
     for (words, wanted) in [
         (["check"].as_slice(), true),
         (&["atomic"], true),
+        (&["compile", "--mode", "stall"], true),
+        (&["compile", "--mode", "defer"], true),
+        (&["compile"], false),
+        (&["compile", "--mode"], false),
+        (&["compile", "--mode", "slow"], false),
+        (&["compile", "--mod", "stall"], false),
+        (&["compile", "stall", "--mode"], false),
+        (&["compile", "--mode", "stall", "stall"], false),
+        (&["check", "--mode", "stall"], false),
         (&["atomic", "check"], false),
         (&["Atomic"], false),
         (&[], false),
