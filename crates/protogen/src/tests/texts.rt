@@ -1,6 +1,6 @@
 //! The texts of protocols, of which the cases are edits.
 
-/// A protocol, of which a case has the text or an edit of it.
+/// A protocol, of which a case has the text or an edit of it. Tables of cases name it so, since a text in each case makes the proof of a test long.
 pub enum Base {
     Mi,
     Msi,
