@@ -27,7 +27,7 @@ use Rattle.pg_shape.specs.Shaped.{IsShaped}
 use Rattle.pg_shape.proofs.Searches.{not_both, not_true, position_get, get_below, map_or_get}
 use Rattle.pg_shape.proofs.Shaped.{is_one}
 use Rattle.pg_standing.proofs.Holders.{is_same}
-use Rattle.pg_race.specs.Sides.{side}
+use Rattle.pg_race.specs.Sides.{side, IsOutstanding}
 use Rattle.pg_table.specs.declared.cache.Desc.{Desc}
 use Rattle.pg_table.specs.declared.cache.Desc.TheVariants.{Stable, Ask, Leave}
 use Rattle.pg_table.specs.declared.cache.Phase.TheVariants.{D, Ad, Ac, A}
@@ -171,7 +171,7 @@ decided_leaving : (d : Draft) (s : ℕ) (f : ℕ) (class : FwdClass) (r : Role) 
 decided_leaving d s f class r = refl
 
 abbrev HasDecided : Draft → Desc → Event → ℕ → FwdClass → Type 0
-HasDecided d s event f class = (start : Role) × (role_of d (start_of s) ≡ Some start) × IsDecided d s event f class start
+HasDecided d s event f class = (start : Role) × (role_of d (start_of s) ≡ Some start) × IsOutstanding start event (is_granted s) × IsDecided d s event f class start
 
 decided_ask : (d : Draft) (event : Event) (x : Desc) (f : ℕ) (class : FwdClass) (e : Event) → HasDecided d x e f class → Some e ≡ Some event → HasDecided d x event f class
 decided_ask d event x f class e done same = subst (λ (v : Event). HasDecided d x v f class) (same_Some e event same) done
@@ -180,23 +180,24 @@ decided : (d : Draft) (m : Mode) (s : Desc) (event : Event) (f : ℕ) (class : F
     → HasDecided d s event f class
 decided d m (Stable s) event f class there e has = absurd cc
 decided d m (Ask Load s D t) event f class there e has =
-    decided_ask d event (Ask Load s D t) f class Load (role.Out, role_of_out d s there.0, decided_load d s t f class) e
+    decided_ask d event (Ask Load s D t) f class Load (role.Out, role_of_out d s there.0, refl, decided_load d s t f class) e
 decided d m (Ask Store s Ad t) event f class there e has =
-    decided_ask d event (Ask Store s Ad t) f class Store (role_of_start d s, role_of_first d s there.0 there.1, decided_first d s t f class has) e
+    decided_ask d event (Ask Store s Ad t) f class Store (role_of_start d s, role_of_first d s there.0 there.1, tt, decided_first d s t f class has) e
 decided d m (Ask Store s Ac t) event f class there e has =
-    decided_ask d event (Ask Store s Ac t) f class Store (role.Owner, role_of_owner d s there.1, decided_counting d s t f class there.2) e
+    decided_ask d event (Ask Store s Ac t) f class Store (role.Owner, role_of_owner d s there.1, tt, decided_counting d s t f class there.2) e
 decided d m (Ask Store s A t) event f class there e has =
     let (r, begun) = start_has_role d s there.0 in
-    decided_ask d event (Ask Store s A t) f class Store (r, begun, decided_waiting d s t f class r) e
+    decided_ask d event (Ask Store s A t) f class Store (r, begun, tt, decided_waiting d s t f class r) e
 decided d m (Leave s) event f class there e has =
     let (c, get) = get_below d.caches s there in
-    decided_ask d event (Leave s) f class Evict (c.role, role_at d s c c.role get refl, decided_leaving d s f class c.role) e
+    decided_ask d event (Leave s) f class Evict (c.role, role_at d s c c.role get refl, refl, decided_leaving d s f class c.role) e
 decided d m _ event f class there e has = absurd there
 
 -- the race order decides in each state with an outstanding operation
 pub race_decides_all : (d : Draft) (m : Mode) (s : Desc) (event : Event) (f : ℕ) (class : FwdClass) → IsWellFormed d → IsShaped d → is_among (descs d m) s ≡ true
     → event_of s ≡ Some event → class_of d f ≡ Some class
-    → (start : Role) × (role_of d (start_of s) ≡ Some start) × (choices d s (at.Forward f) ≡ by_side d (side start event (is_granted s) class) s f)
+    → (start : Role) × (role_of d (start_of s) ≡ Some start) × IsOutstanding start event (is_granted s)
+    × (choices d s (at.Forward f) ≡ by_side d (side start event (is_granted s) class) s f)
 race_decides_all d m s event f class formed shaped among e has = decided d m s event f class (is_state d m s shaped.perms among) e has
 
 -- Answers

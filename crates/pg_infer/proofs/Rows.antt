@@ -55,11 +55,6 @@ pub put_last : (new old : List TableState) (r : Row) → new ≡ with_row old r 
     → new ≡ front ++ record s { rows = s.rows ++ r ∷ [] } ∷ []
 put_last new old r put front s was = put ∙ ap (λ (t : List TableState). with_row t r) was ∙ with_row_behind front s r
 
--- no row is put there
-pub put_none : (new old : List TableState) → new ≡ old → (front : List TableState) (s : TableState) → old ≡ front ++ s ∷ []
-    → new ≡ front ++ record s { rows = s.rows ++ [] } ∷ []
-put_none new old same front s was = same ∙ was ∙ ap (λ (rs : List Row). front ++ record s { rows = rs } ∷ []) (sym (append-nil s.rows))
-
 -- a list that ends so has an element
 pub has_last : {A : Type 0} (xs front : List A) (x : A) → xs ≡ front ++ x ∷ [] → 0 < length xs
 has_last xs front x e = omega (arith, ap length e, length-append front (x ∷ []))

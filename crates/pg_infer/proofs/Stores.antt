@@ -11,9 +11,8 @@ use Rattle.pg_table.specs.declared.cache.Tag.TheVariants.{Plain}
 use Rattle.pg_table.specs.declared.cache.Act.TheVariants as act
 use Rattle.pg_table.specs.Descriptors.{store_phase}
 use Rattle.pg_table.specs.declared.cache.Tag.{Tag}
-use Rattle.pg_table.specs.declared.cache.Phase.TheVariants.{Ad}
 use Rattle.pg_table.specs.declared.cache.Input.TheVariants as at
-use Rattle.pg_table.specs.Choices.{only, given, by_store, is_earlier, earlier, later, when_storing}
+use Rattle.pg_table.specs.Choices.{only, given, by_store, is_earlier, earlier, when_storing}
 
 pub with_permission : (d : Draft) (s : ℕ) → cache_is (allows Store) d s ≡ true
     → by_store d s ≡ given (option_and_then (λ l. store_next s Store l.form) (core_row d s Store)) (λ t. only (act.Hit ∷ []) (Stable t))
@@ -25,6 +24,3 @@ without_permission d s e = rw e refl
 
 pub meets_earlier : (d : Draft) (s : ℕ) (t : Tag) (f : ℕ) → is_earlier d s t f ≡ true → when_storing d s t (at.Forward f) ≡ earlier d s f
 meets_earlier d s t f e = rw e refl
-
-pub meets_later : (d : Draft) (s : ℕ) (t : Tag) (f : ℕ) → is_earlier d s t f ≡ false → when_storing d s t (at.Forward f) ≡ later d s Store Ad t f
-meets_later d s t f e = rw e refl

@@ -45,7 +45,7 @@ is_before After = false
 abbrev pub role_of_start : Draft → ℕ → Role
 role_of_start d s = if is (shared d) s then role.Shared else role.Out
 
--- a forward that comes after has come
+-- a later forward has come
 abbrev pub is_tagged : Tag → Bool
 is_tagged tag.Plain = false
 is_tagged tag.Kept = true
@@ -60,7 +60,7 @@ event_of (Stable s) = None
 event_of (Ask event s phase tag) = Some event
 event_of (Leave s) = Some Evict
 
--- the stable state in which the outstanding operation began, or where forwards that come before it have led it since
+-- the stable state in which the outstanding operation began, or where earlier forwards have led it since
 abbrev pub start_of : Desc → ℕ
 start_of (Stable s) = s
 start_of (Ask event s phase tag) = s
@@ -77,14 +77,14 @@ is_counting phase.Ad = false
 is_counting phase.Ac = false
 is_counting phase.A = true
 
--- the outstanding operation was granted: data or a count was taken for it, or a forward that comes after it; an evict is granted nothing
+-- the outstanding operation was granted: data or a count was taken for it, or a later forward; an evict is granted nothing
 abbrev pub is_granted : Desc → Bool
 is_granted (Stable s) = false
 is_granted (Ask event s phase tag) = is_counting phase || is_tagged tag
 is_granted (Leave s) = false
 
--- what may be done with a forward on this side of the outstanding operation: before it, the forward is answered as in the stable state where that
--- began, and the operation goes on from where it leads; after it, the forward waits or is taken
+-- what may be done with a forward on this side of the outstanding operation: an earlier one is answered as in the stable state where that began,
+-- and the operation goes on from where it leads; a later one waits or is taken
 abbrev pub by_side : Draft → Side → Desc → ℕ → List Choice
 by_side d Before s f = answered d (start_of s) f (moved d s)
 by_side d After (Ask event s phase tag) f = later d s event phase tag f

@@ -121,7 +121,7 @@ fn takes_part(alloc: Global, protocol: &Protocol, start: u8, tag: Tag, reply: u8
     }
 }
 
-/// Answers a forward that comes before a store as where the store began.
+/// Answers a forward that is earlier than a store as where the store began.
 fn earlier(alloc: Global, protocol: &Protocol, start: u8, forward: u8) -> Chosen
     ensures { IfOk result (λ c. (mode : Mode) → c ≡ chosen mode (may.earlier protocol.now start forward)) }
 {
@@ -134,7 +134,7 @@ fn earlier(alloc: Global, protocol: &Protocol, start: u8, forward: u8) -> Chosen
     answered(alloc, protocol, at, start, forward)
 }
 
-/// Answers a forward that comes before a store which waits for data, or else lets it wait or takes it.
+/// Answers a forward that is earlier than a store which waits for data, and lets a later one wait or takes it.
 fn meets(alloc: Global, protocol: &Protocol, mode: Mode, start: u8, tag: Tag, forward: u8) -> Chosen
     ensures { IfOk result (λ c. c ≡ chosen mode (may.when_storing protocol.now start tag (Input.Forward forward))) }
 {

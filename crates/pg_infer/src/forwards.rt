@@ -49,7 +49,7 @@ fn answer(
     Ok(acts)
 }
 
-/// The state once a forward that comes before the outstanding operation has led the cache to this stable state.
+/// The state once an earlier forward than the outstanding operation has led the cache to this stable state.
 fn moved(protocol: &Protocol, at: Desc, to: u8) -> Desc
     ensures { result ≡ moved_to protocol.now at to }
 {
@@ -235,7 +235,7 @@ fn is_tagged(tag: Tag) -> bool
     }
 }
 
-/// Whether a forward comes before a store that waits for data, in the race order.
+/// Whether a forward is earlier than a store that waits for data, in the race order.
 pub fn is_earlier(protocol: &Protocol, start: u8, tag: Tag, forward: u8) -> bool
     ensures { result ≡ may.is_earlier protocol.now start tag forward }
 {

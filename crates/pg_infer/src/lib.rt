@@ -1,6 +1,6 @@
 //! The generator: the tables of both controllers, of the stable states of a protocol.
 //!
-//! docs/TABLES.md has the tables by an example.
+//! docs/TABLES.md has them.
 #![tactic(auto)]
 
 mod after;
@@ -17,4 +17,4 @@ mod states;
 mod table;
 
 pub use generator::generate;
-pub use laws::the_race_order_decides;
+pub use laws::{answers_do_not_wait, the_race_order_decides};

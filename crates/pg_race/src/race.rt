@@ -14,11 +14,11 @@ fn side_of_start(start: Role, class: FwdClass) -> Side
     }
 }
 
-/// Where the transaction of a forward of this class stands to the operation that a cache has outstanding, which began in a state of the role
-/// `start`.
+/// Whether a forward of this class is earlier or later than the operation that a cache has outstanding, which began in a state of the role
+/// `start`: whether its transaction comes before that operation's, or after it.
 ///
-/// It is `granted` once data or a count was taken for it, or a forward that comes after it; an acknowledgement grants nothing. docs/MODEL.md has
-/// the order and why it is so.
+/// It is `granted` once data or a count was taken for it, or a later forward; an acknowledgement grants nothing. docs/MODEL.md has the order and
+/// why it is so.
 pub fn order(start: Role, event: Event, granted: bool, class: FwdClass) -> Side
     requires { sides.IsOutstanding start event granted }
     ensures { result ≡ sides.side start event granted class }

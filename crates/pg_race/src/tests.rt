@@ -2,7 +2,7 @@ use super::*;
 use pg_perm::{Event, FwdClass, Role, Side};
 
 #[test]
-fn an_inv_comes_before_a_store_of_a_sharer(rt: HostRuntime) {
+fn each_line_of_the_order(rt: HostRuntime) {
     for (start, event, granted, class, wanted) in [
         (
             Role::Shared,
