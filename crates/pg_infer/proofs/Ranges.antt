@@ -49,6 +49,10 @@ flat_filter_more f p n =
     ap (λ (t : List _). flat_map f (filter p (range_with_len 0 n)) ++ t) (sym (if_flat f n (p n)))
     ∙ sym (flat_map-append f (filter p (range_with_len 0 n)) (if p n then n ∷ [] else [])) ∙ ap (flat_map f) (filter_more p n)
 
+-- what is put is equal to this
+pub put_as : {A : Type 0} (new old y z : List A) → new ≡ old ++ y → y ≡ z → new ≡ old ++ z
+put_as new old y z put e = put ∙ ap (λ (t : List _). old ++ t) e
+
 -- what is put behind nothing, five times
 pub put_in_turn : {A : Type 0} (s0 s1 s2 s3 s4 s5 a b c d e : List A)
     → s0 ≡ [] → s1 ≡ s0 ++ a → s2 ≡ s1 ++ b → s3 ≡ s2 ++ c → s4 ≡ s3 ++ d → s5 ≡ s4 ++ e → s5 ≡ a ++ b ++ c ++ d ++ e

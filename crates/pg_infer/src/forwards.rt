@@ -168,26 +168,17 @@ pub fn later(
     if !is_later(protocol, start, event, tag, forward) {
         return Ok(None);
     }
-    match mode {
-        Mode::Stall => {
-            let next = Desc::Ask {
-                event,
-                start,
-                phase,
-                tag,
-            };
-            step(alloc, &[Act::Stall], next)
-        }
-        Mode::Defer => {
-            let next = Desc::Ask {
-                event,
-                start,
-                phase,
-                tag: tag_by(protocol, forward),
-            };
-            step(alloc, &[taking(protocol, forward)], next)
-        }
-    }
+    let (act, tag) = match mode {
+        Mode::Stall => (Act::Stall, tag),
+        Mode::Defer => (taking(protocol, forward), tag_by(protocol, forward)),
+    };
+    let next = Desc::Ask {
+        event,
+        start,
+        phase,
+        tag,
+    };
+    step(alloc, &[act], next)
 }
 
 /// The role of a state in which a store that waits for data began: it is shared, or out.

@@ -74,16 +74,10 @@ fn ask_to_write(alloc: Global, protocol: &Protocol, state: u8) -> Chosen
     step(alloc, &[Act::Send(request)], next)
 }
 
-fn may_store(protocol: &Protocol, state: u8) -> bool
-    ensures { result ≡ term.cache_is (says.allows Event.Store) protocol.now state }
-{
-    terms::is_allowed(protocol.draft(), Event::Store, usize::from(state))
-}
-
 fn by_store(alloc: Global, protocol: &Protocol, state: u8) -> Chosen
     ensures { IfOk result (λ c. (mode : Mode) → c ≡ chosen mode (may.by_store protocol.now state)) }
 {
-    if may_store(protocol, state) {
+    if terms::is_allowed(protocol.draft(), Event::Store, usize::from(state)) {
         hit(alloc, protocol, state)
     } else {
         ask_to_write(alloc, protocol, state)

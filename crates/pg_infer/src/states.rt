@@ -192,12 +192,6 @@ fn put_leaving(states: &mut Vec<Desc>, protocol: &Protocol, count: u8) -> Result
     Ok(())
 }
 
-fn put_all_stable(states: &mut Vec<Desc>, protocol: &Protocol) -> Result<(), AllocError>
-    ensures { IfOk result (λ _. states.new.items ≡ states.old.items ++ map (λ s. desc.Stable s) (of.states protocol.now)) }
-{
-    put_stable(states, count(protocol))
-}
-
 /// The load, which begins as out.
 fn put_load(states: &mut Vec<Desc>, protocol: &Protocol, mode: Mode) -> Result<(), AllocError>
     ensures { IfOk result (λ _. states.new.items ≡ states.old.items ++ map (λ t. desc.Ask Event.Load (of.out_state protocol.now) Phase.D t) (of.tags protocol.now mode (of.out_state protocol.now) Event.Load)) }
@@ -206,28 +200,15 @@ fn put_load(states: &mut Vec<Desc>, protocol: &Protocol, mode: Mode) -> Result<(
     put_asked(states, protocol, mode, out, Event::Load, Phase::D)
 }
 
-fn put_all_leaving(states: &mut Vec<Desc>, protocol: &Protocol) -> Result<(), AllocError>
-    ensures { IfOk result (λ _. states.new.items ≡ states.old.items ++ map (λ s. desc.Leave s) (filter (λ s. not (term.is (term.out protocol.now) s)) (of.states protocol.now))) }
-{
-    put_leaving(states, protocol, count(protocol))
-}
-
-/// The evict of a cache that forwards have led to out meanwhile.
-fn put_left(states: &mut Vec<Desc>, protocol: &Protocol) -> Result<(), AllocError>
-    ensures { IfOk result (λ _. states.new.items ≡ states.old.items ++ desc.Leave (of.out_state protocol.now) ∷ []) }
-{
-    put(states, Desc::Leave(out_state(protocol)))
-}
-
 /// The states of a cache controller.
 pub fn descs(alloc: Global, protocol: &Protocol, mode: Mode) -> Result<Vec<Desc>, AllocError>
     ensures { IfOk result (λ all. all.items ≡ of.descs protocol.now mode) }
 {
     let mut states = Vec::new(alloc);
-    put_all_stable(&mut states, protocol)?;
+    put_stable(&mut states, count(protocol))?;
     put_load(&mut states, protocol, mode)?;
     put_stores(&mut states, protocol, mode)?;
-    put_all_leaving(&mut states, protocol)?;
-    put_left(&mut states, protocol)?;
+    put_leaving(&mut states, protocol, count(protocol))?;
+    put(&mut states, Desc::Leave(out_state(protocol)))?;
     Ok(states)
 }

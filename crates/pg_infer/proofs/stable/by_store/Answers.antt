@@ -1,4 +1,4 @@
-use Rattle.std.proofs.Common.{◌≡◌, ◌∙◌, List, sym, subst}
+use Rattle.std.proofs.Common.{◌≡◌, List, sym, subst}
 use Rattle.std.specs.Prelude.{IfOk}
 use Rattle.pg_perm.specs.declared.kinds.Mode.{Mode}
 use Rattle.pg_table.specs.Choices.{Choice}
@@ -6,12 +6,12 @@ use Rattle.pg_table.specs.Generated.{chosen}
 use Rattle.pg_infer.proofs.Stores.{with_permission, without_permission}
 use Rattle.pg_infer.proofs.stable.by_store.Goals as goal
 
-pub returns-then-may_store : goal.returns-then-may_store
-returns-then-may_store c =
+pub returns-then-is_allowed : goal.returns-then-is_allowed
+returns-then-is_allowed c =
     subst (λ (cs : List Choice). IfOk c.hit.result (λ x. (m : Mode) → x ≡ chosen m cs))
-    (sym (with_permission c.args.protocol.now c.args.state (sym c.may_store.ensures ∙ c.if-may_store.true))) c.hit.ensures
+    (sym (with_permission c.args.protocol.now c.args.state (cc (c.is_allowed.ensures, c.if-is_allowed.true, c.draft.ensures.exact, c.from.ensures)))) c.hit.ensures
 
-pub returns-else-may_store : goal.returns-else-may_store
-returns-else-may_store c =
+pub returns-else-is_allowed : goal.returns-else-is_allowed
+returns-else-is_allowed c =
     subst (λ (cs : List Choice). IfOk c.ask_to_write.result (λ x. (m : Mode) → x ≡ chosen m cs))
-    (sym (without_permission c.args.protocol.now c.args.state (sym c.may_store.ensures ∙ c.if-may_store.false))) c.ask_to_write.ensures
+    (sym (without_permission c.args.protocol.now c.args.state (cc (c.is_allowed.ensures, c.if-is_allowed.false, c.draft.ensures.exact, c.from.ensures)))) c.ask_to_write.ensures
