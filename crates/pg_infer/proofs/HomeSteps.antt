@@ -11,9 +11,9 @@ use Rattle.pg_table.specs.declared.home.DirDesc.{DirDesc}
 use Rattle.pg_table.specs.declared.home.DirInput.{DirInput}
 use Rattle.pg_table.specs.declared.home.DirRow.{DirRow}
 use Rattle.pg_table.specs.declared.dir_table.DirTableState.{DirTableState}
-use Rattle.pg_table.specs.Home.{home_descs, home_inputs, HomeChoice, home_choice, home_row_for}
+use Rattle.pg_table.specs.Home.{home_descs, HomeChoice, home_choice, home_row_for, home_rows}
 use Rattle.pg_table.specs.Tables.{with_dir_row, home_row, home_state, home_table}
-use Rattle.pg_infer.specs.HomeStates.{row_at, state_with}
+use Rattle.pg_infer.specs.HomeStates.{row_at}
 
 -- the states with a row, if there is one, last among those of the last state
 abbrev pub put_row : List DirTableState → Option DirRow → List DirTableState
@@ -36,6 +36,14 @@ ended ss s rows = ss ++ record { desc = s; rows = rows } ∷ []
 -- the rows that a state has at these inputs
 abbrev pub rows_at : Draft → List DirDesc → DirDesc → List DirInput → List DirRow
 rows_at d states s inputs = map (home_row states) (flat_map (λ i. home_row_for i (home_choice d s i)) inputs)
+
+-- a state with its rows at these inputs
+abbrev pub state_with : Draft → List DirDesc → List DirInput → DirDesc → DirTableState
+state_with d states inputs s = record { desc = s; rows = rows_at d states s inputs }
+
+-- a state with all its rows
+abbrev pub state_of : Draft → List DirDesc → DirDesc → DirTableState
+state_of d states s = home_state states (record { desc = s; rows = home_rows d s })
 
 -- where the last state has its rows at some inputs, it has them at one more with the row for that
 input_more : (d : Draft) (states : List DirDesc) (ss : List DirTableState) (inputs : List DirInput) (s : DirDesc) (i : DirInput)
@@ -65,20 +73,20 @@ row_put d states ss before after inputs s k x row within was is put =
 
 -- the step of a loop over states
 pub state_put : (d : Draft) (states : List DirDesc) (before after : List DirTableState) (k : ℕ) (x : DirDesc)
-    → k < length states → states ≡ home_descs d → before ≡ map (state_with d (home_descs d) home_inputs) (take k states)
-    → after ≡ before ++ state_with d states home_inputs (get_or states k x) ∷ [] → after ≡ map (state_with d (home_descs d) home_inputs) (take (k + 1) states)
+    → k < length states → states ≡ home_descs d → before ≡ map (state_of d (home_descs d)) (take k states)
+    → after ≡ before ++ state_of d states (get_or states k x) ∷ [] → after ≡ map (state_of d (home_descs d)) (take (k + 1) states)
 state_put d states before after k x within all was put =
-    let state : DirDesc → DirTableState = state_with d (home_descs d) home_inputs in
+    let state : DirDesc → DirTableState = state_of d (home_descs d) in
     let more : map state (take (k + 1) states) ≡ map state (take k states) ++ state (get_or states k x) ∷ [] =
     ap (map state) (take_more states k x within) ∙ map-append state (take k states) (get_or states k x ∷ []) in
-    let here : state_with d states home_inputs (get_or states k x) ≡ state (get_or states k x) =
-    ap (λ xs. state_with d xs home_inputs (get_or states k x)) all in
+    let here : state_of d states (get_or states k x) ≡ state (get_or states k x) =
+    ap (λ xs. state_of d xs (get_or states k x)) all in
     cc
 
 -- once all states have been put the table is whole
 pub states_are_table : (d protocol : Draft) (states : List DirDesc) (table : List DirTableState) (k : ℕ) → length states ≤ k → states ≡ home_descs d
-    → d ≡ protocol → table ≡ map (state_with d (home_descs d) home_inputs) (take k states) → table ≡ home_table protocol
+    → d ≡ protocol → table ≡ map (state_of d (home_descs d)) (take k states) → table ≡ home_table protocol
 states_are_table d protocol states table k done all same was =
-    was ∙ (ap (map (state_with d (home_descs d) home_inputs)) (take_all k states done ∙ all)
-    ∙ (sym (map-map (home_state (home_descs d)) (λ s. record { desc = s; rows = flat_map (λ i. home_row_for i (home_choice d s i)) home_inputs }) (home_descs d))
+    was ∙ (ap (map (state_of d (home_descs d))) (take_all k states done ∙ all)
+    ∙ (sym (map-map (home_state (home_descs d)) (λ s. record { desc = s; rows = home_rows d s }) (home_descs d))
     ∙ ap home_table same))

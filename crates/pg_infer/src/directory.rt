@@ -131,7 +131,7 @@ fn add_state(
     requires all { states.now ≡ home.home_descs draft.now }
     requires among { home_states.is_among states.now state ≡ true }
     requires room { length table.old < 65535 }
-    ensures { OnOk result (table.new ≡ table.old ++ home_states.state_with draft.now states.now home.home_inputs state ∷ []) }
+    ensures { OnOk result (table.new ≡ table.old ++ tables.home_state states.now (record { desc = state; rows = home.home_rows draft.now state }) ∷ []) }
 {
     table.add_state(state)?;
     for input in INPUTS {

@@ -95,10 +95,14 @@ abbrev pub home_row_for : DirInput → Option HomeChoice → List HomeRow
 home_row_for i None = []
 home_row_for i (Some c) = record { input = i; choice = c } ∷ []
 
+-- the rows of a state
+abbrev pub home_rows : Draft → DirDesc → List HomeRow
+home_rows d s = flat_map (λ i. home_row_for i (home_choice d s i)) home_inputs
+
 pub record HomeState : Type 0 where
   pub desc : DirDesc
   pub rows : List HomeRow
 
 -- the states with their rows, which are the same in both modes
 abbrev pub home_generated : Draft → List HomeState
-home_generated d = map (λ s. record { desc = s; rows = flat_map (λ i. home_row_for i (home_choice d s i)) home_inputs }) (home_descs d)
+home_generated d = map (λ s. record { desc = s; rows = home_rows d s }) (home_descs d)

@@ -1,6 +1,6 @@
 use Rattle.std.proofs.Common.{◌≡◌, [], ◌∷◌, ◌++◌, take}
 use Rattle.pg_table.specs.Home.{home_inputs}
-use Rattle.pg_infer.specs.HomeStates.{state_with}
+use Rattle.pg_infer.proofs.HomeSteps.{state_with}
 use Rattle.pg_infer.proofs.directory.add_state.Given as goal
 
 -- the last state has its rows at the inputs so far
