@@ -2,7 +2,6 @@
 ghost use Rattle.std.specs.Prelude.{◌≡◌, ◌<◌, ◌≤◌, [], ◌∷◌, ◌++◌, List, map, length, position, true, IfOk, IfSome};
 ghost use Rattle.std.specs.List.{flat_map};
 ghost use Rattle.pg_perm.specs.Drafts.{IsWellFormed};
-ghost use Rattle.pg_terms.specs.Terms as term;
 ghost use Rattle.pg_shape.specs.Shaped.{IsShaped};
 ghost use Rattle.pg_table.specs.declared.table.TableState.{TableState};
 ghost use Rattle.pg_table.specs.Choices.{choices};
@@ -15,28 +14,10 @@ use crate::choice::Choice;
 use crate::choices::choose;
 use crate::inputs::inputs;
 use crate::states::descs;
-use pg_perm::{Event, Mode, Sequence};
+use pg_perm::{Mode, Sequence};
 use pg_shape::Protocol;
-use pg_table::{Desc, Input, Phase, Row, Table, Tag};
+use pg_table::{Desc, Input, Row, Table};
 use std::alloc::{AllocError, Global};
-
-fn is_same_event(event: Event, other: Event) -> bool
-    ensures { result ≡ term.same_event event other }
-{
-    event == other
-}
-
-fn is_same_phase(phase: Phase, other: Phase) -> bool
-    ensures { result ≡ tables.same_phase phase other }
-{
-    phase == other
-}
-
-fn is_same_tag(tag: Tag, other: Tag) -> bool
-    ensures { result ≡ tables.same_tag tag other }
-{
-    tag == other
-}
 
 fn is_same(state: Desc, other: Desc) -> bool
     ensures { result ≡ tables.same_desc state other }
@@ -56,10 +37,7 @@ fn is_same(state: Desc, other: Desc) -> bool
                 phase: p,
                 tag: t,
             },
-        ) => is_same_event(event, e)
-            && start == s
-            && is_same_phase(phase, p)
-            && is_same_tag(tag, t),
+        ) => event == e && start == s && phase == p && tag == t,
         (Desc::Leave(n), Desc::Leave(m)) => n == m,
         _ => false,
     }
