@@ -7,7 +7,7 @@ use Rattle.pg_table.specs.declared.cache.Desc.TheVariants.{Stable, Ask, Leave}
 use Rattle.pg_table.specs.declared.cache.Tag.TheVariants.{Plain}
 use Rattle.pg_table.specs.Descriptors.{store_phase}
 
--- the state once an earlier forward than the outstanding operation has led the cache to this stable state
+-- the state once a forward that is earlier than the outstanding operation has led the cache to this stable state
 abbrev pub moved : Draft → Desc → ℕ → Desc
 moved d (Stable s) t = Stable t
 moved d (Ask event s phase tag) t = Ask Store t (store_phase d t) Plain

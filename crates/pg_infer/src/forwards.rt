@@ -49,7 +49,7 @@ fn answer(
     Ok(acts)
 }
 
-/// The state once an earlier forward than the outstanding operation has led the cache to this stable state.
+/// The state once a forward that is earlier than the outstanding operation has led the cache to this stable state.
 fn moved(protocol: &Protocol, at: Desc, to: u8) -> Desc
     ensures { result ≡ moved_to protocol.now at to }
 {
