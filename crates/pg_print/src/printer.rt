@@ -16,11 +16,11 @@ use std::alloc::{AllocError, Global};
 fn put_head(alloc: Global, text: &mut String, draft: &Draft, mode: Mode) -> Result<(), AllocError>
     ensures { IfOk result (λ _. string_bytes text.new ≡ string_bytes text.old ++ line_text (codes "table" ∷ draft.now.name ∷ word.mode_word mode ∷ [])) }
 {
-    put_line(
-        alloc,
-        text,
-        &["table", draft.name.as_str(), mode_word(mode)],
-    )
+    let mut words = Vec::new(alloc);
+    words.push("table")?;
+    words.push(draft.name.as_str())?;
+    words.push(mode_word(mode))?;
+    put_line(alloc, text, &words)
 }
 
 /// The text of these tables, whether they are sound or not.
