@@ -1,6 +1,7 @@
 #!/usr/bin/env bash
-# Times `atomic` on scripts of 1,024 to 16,384 operations over 64 blocks and 32 cores, behind MSI and MOESI, beside `LC_ALL=C wc -w` on the
-# input and the output together. Run it after the program was proved and built. Each is run often, and the fastest run counts.
+# Times `atomic` on scripts of 1,024 to 16,384 operations over 64 blocks and 32 cores, on MSI and on MOESI, beside
+# `LC_ALL=C wc -w` on the input and the output together. Run it once the program is proved and built. Each is run often,
+# and the fastest run counts.
 cd "$(dirname "$0")/.." || exit 2
 program=crates/protogen/out/protogen
 [ -x "$program" ] || { echo "bench: build the program first, by ./protogen" >&2; exit 2; }

@@ -1,9 +1,10 @@
 #!/usr/bin/env bash
-# Times `check` beside `LC_ALL=C wc -w` on the same bytes, on four inputs: MSI with newlines behind it up to 1,048,576 bytes, a text of 512 core
-# lines with as many words as a line may have, a text at each limit, with 16 cache lines, 16 dir lines of 80 words, 32 messages and 512 core, take and
-# row lines, and the text at the limits of bench/limits.awk with as many core lines of 80 words more as there may be. The second and the third break a
-# rule of the shape in line 1, and the last keeps the shape up to the first of the lines that it has more, which is line 105. Run it after the
-# program was proved and built. Each is run often, and the fastest run counts.
+# Times `check` beside `LC_ALL=C wc -w` on the same bytes, on four inputs: MSI followed by newlines up to 1,048,576
+# bytes, a text of 512 core lines with as many words as a line may have, a text at each limit, with 16 cache lines, 16
+# dir lines of 80 words, 32 messages and 512 core, take and row lines, and the text at the limits of bench/limits.awk
+# with as many more core lines of 80 words as there may be. The second and the third break a rule of the shape in line
+# 1, and the last keeps the shape up to the first of its additional lines, which is line 105. Run it once the program is
+# proved and built. Each is run often, and the fastest run counts.
 cd "$(dirname "$0")/.." || exit 2
 program=crates/protogen/out/protogen
 [ -x "$program" ] || { echo "bench: build the program first, by ./protogen" >&2; exit 2; }

@@ -1,6 +1,7 @@
 #!/usr/bin/env bash
-# Times `compile --mode stall` and `compile --mode defer` on MOESI and on the text at the limits of bench/limits.awk, beside `LC_ALL=C wc -w` on the
-# output. Run it after the program was proved and built. Each is run often, and the fastest run counts.
+# Times `compile --mode stall` and `compile --mode defer` on MOESI and on the text at the limits of bench/limits.awk,
+# beside `LC_ALL=C wc -w` on the output. Run it once the program is proved and built. Each is run often, and the fastest
+# run counts.
 cd "$(dirname "$0")/.." || exit 2
 program=crates/protogen/out/protogen
 [ -x "$program" ] || { echo "bench: build the program first, by ./protogen" >&2; exit 2; }

@@ -2,7 +2,7 @@ import os, subprocess, time
 
 
 def fastest(command, path, runs, statuses):
-    """The seconds of the fastest of so many runs of a command with this file as its input, each of which ends with one of the statuses."""
+    """Returns the seconds of the fastest of these runs of a command on a file; each ends with one of the statuses."""
     best = float("inf")
     for _ in range(runs):
         with open(path, "rb") as source:
@@ -14,5 +14,5 @@ def fastest(command, path, runs, statuses):
 
 
 def words(path, runs):
-    """The seconds that `wc -w` takes on a file, and the size of the file."""
+    """Returns the seconds that `wc -w` takes on a file, and the size of the file."""
     return fastest(["/usr/bin/wc", "-w"], path, runs, (0,)), os.path.getsize(path)

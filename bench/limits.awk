@@ -1,10 +1,12 @@
-# A text at the limits. It has 14 cache states, 16 directory states and 32 messages, each with a name of 24 characters. Twelve of the cache states
-# are owners and eleven of these may only read, so that a store begins in thirteen states. Each owner may be sent a share, a keep and a drop, so that
-# each operation may have each tag. A load may get each of 24 replies and ends in thirteen states; a store that began as out may get each of them too.
-# It keeps the rules of the form and of the shape; with `-v more=N` it has N more core lines, of 80 words each, for a load that has a line already.
+# A text at the limits. It has 14 cache states, 16 directory states and 32 messages, each with a name of 24 characters.
+# Twelve of the cache states are owners and eleven of these may only read, so that a store begins in thirteen states.
+# Each owner may be sent a share, a keep and a drop, so that each operation may have each tag. A load may get each of 24
+# replies and ends in thirteen states; a store that began as out may get each of them too. It keeps the rules of the
+# form and of the shape; with `-v more=N` it has N more core lines, of 80 words each, for a load that already has a
+# line.
 function name(letter, number) { return sprintf("%sabcdefghijklmnopqrstu%02d", letter, number) }
-# Owners are numbered from 1 to 12, and the last may write. The first 12 replies answer a drop, and a load then ends in that owner; with each
-# other reply it ends shared.
+# Owners are numbered from 1 to 12, and the last may write. The first 12 replies answer a drop, and a load then ends in
+# that owner; with each other reply it ends shared.
 function owner(k) { return name(k < 12 ? "R" : "M", k) }
 function reply(k) { return name("D", k) }
 BEGIN {

@@ -1,12 +1,13 @@
 -- The list of the states of all cores, from their numbers.
-use Rattle.std.proofs.Common.{◌≡◌, ◌≢◌, ℕ, zero, suc, ◌+◌, ◌<◌, ◌≤◌, Bool, true, false, List, [], ◌∷◌, length, get_or, set, Some, refl, sym, ap, subst, ◌∙◌, arith, add-zero, zero-add}
-use Rattle.std.specs.Prelude.{◌==◌, IsSome}
-use Rattle.std.proofs.lemmas.Bool.{eq-eqb, eqb-true, eqb-false}
+use Rattle.std.proofs.Common.{◌≡◌, ◌≢◌, ℕ, zero, suc, ◌+◌, ◌<◌, Bool, true, false, List, [], ◌∷◌, length, get_or, set, Some, refl, sym, ap, subst, ◌∙◌, arith, add-zero, zero-add}
+use Rattle.std.specs.Prelude.{◌==◌, nat_lt, IsSome}
+use Rattle.std.proofs.lemmas.Bool.{eq-eqb, eqb-true, eqb-false, ltb-true}
 use Rattle.std.proofs.lemmas.List.{ext_get_or, get_or-set_same, get_or-set_other, length-set}
-use Rattle.std.proofs.lemmas.List.Edits.{fill_by_more}
+use Rattle.pg_perm.proofs.Booleans.{both}
 use Rattle.pg_perm.specs.declared.draft.Draft.{Draft}
 use Rattle.pg_terms.specs.Terms.{take_row}
-use Rattle.pg_standing.specs.Standings.{Request}
+use Rattle.pg_standing.specs.Standings.{Request, is_among, without}
+use Rattle.pg_standing.proofs.Cores.{are_below, among_without_same}
 use Rattle.pg_standing.specs.Sends.{sent}
 use Rattle.pg_atomic.specs.States.{State, state_of, taken, moved, ends_at, each_from, transact}
 use Rattle.pg_atomic.specs.Safe.{HasItsRows}
@@ -30,42 +31,89 @@ each_is f xs ys same h = ext_get_or 0 ys (each_from f 0 xs) (same ∙ sym (lengt
     let first : 0 + k ≡ k = omega arith in
     h k inside ∙ sym (get_or-each f 0 k xs inside ∙ ap (λ n. f n (get_or xs k 0)) first))
 
--- the states below a number have moved, and nothing else has
-pub record HasMoved (f : ℕ → ℕ → ℕ) (a b : State) (i : ℕ) : Type 0 where
+-- all but those left have moved, and these haven't yet
+pub record HasMoved (f : ℕ → ℕ → ℕ) (a b : State) (left : List ℕ) : Type 0 where
   pub home : b.home ≡ a.home
   pub word : b.word ≡ a.word
   pub cores : length b.states ≡ length a.states
-  pub moved : (k : ℕ) → k < i → get_or b.states k 0 ≡ f k (get_or a.states k 0)
-  pub waiting : (k : ℕ) → i ≤ k → get_or b.states k 0 ≡ get_or a.states k 0
+  pub moved : (k : ℕ) → is_among left k ≡ false → get_or b.states k 0 ≡ f k (get_or a.states k 0)
+  pub waiting : (k : ℕ) → is_among left k ≡ true → get_or b.states k 0 ≡ get_or a.states k 0
+  pub below : are_below (length a.states) left ≡ true
 
-pub one_moves : (f : ℕ → ℕ → ℕ) (a b : State) (i x : ℕ) → HasMoved f a b i → i < length b.states → x ≡ f i (get_or a.states i 0)
-    → HasMoved f a (record b { states = set b.states i x }) (i + 1)
-one_moves f a b i x before inside e = record {
-  home = before.home;
-  word = before.word;
-  cores = length-set b.states i x ∙ before.cores;
-  moved = subst (λ y. (k : ℕ) → k < i + 1 → get_or (set b.states i y) k 0 ≡ f k (get_or a.states k 0)) (sym e)
-      (fill_by_more (λ k. f k (get_or a.states k 0)) b.states i 0 inside before.moved);
-  waiting = λ k h. get_or-set_other b.states i k x 0 (λ q. omega arith) ∙ before.waiting k (omega arith);
+-- the first of those left is a core that there is
+pub first_below : (n c : ℕ) (left : List ℕ) → are_below n (c ∷ left) ≡ true → c < n
+first_below n c left h = ltb-true c n (both (nat_lt c n) (are_below n left) h).0
+
+-- at first nothing has moved, where those that aren't left stay
+pub none_moved : (f : ℕ → ℕ → ℕ) (a : State) (left : List ℕ) → ((k : ℕ) → is_among left k ≡ false → f k (get_or a.states k 0) ≡ get_or a.states k 0)
+    → are_below (length a.states) left ≡ true → HasMoved f a a left
+none_moved f a left stay below = record {
+  home = refl;
+  word = refl;
+  cores = refl;
+  moved = λ k h. sym (stay k h);
+  waiting = λ k h. refl;
+  below = below;
 }
 
-pub all_moved : (f : ℕ → ℕ → ℕ) (a b : State) (i : ℕ) → HasMoved f a b i → length a.states ≤ i → b ≡ record a { states = each_from f 0 a.states }
-all_moved f a b i before past =
-    let moved : b.states ≡ each_from f 0 a.states = each_is f a.states b.states before.cores (λ k h. before.moved k (omega arith)) in
+pub one_moves : (f : ℕ → ℕ → ℕ) (a b : State) (c x : ℕ) (left rest : List ℕ) → HasMoved f a b left → left ≡ c ∷ rest → rest ≡ without c left
+    → x ≡ f c (get_or a.states c 0) → HasMoved f a (record b { states = set b.states c x }) rest
+one_moves f a b c x left rest before first gone e =
+    let below : are_below (length a.states) (c ∷ rest) ≡ true = subst (λ xs. are_below (length a.states) xs ≡ true) first before.below in
+    let inside : c < length b.states = omega (arith, first_below (length a.states) c rest below, before.cores) in
+    record {
+      home = before.home;
+      word = before.word;
+      cores = length-set b.states c x ∙ before.cores;
+      moved = λ k h. moves below inside k h (c == k) refl;
+      waiting = λ k h. waits k h (c == k) refl;
+      below = (both (nat_lt c (length a.states)) (are_below (length a.states) rest) below).1;
+    }
+  where
+    moves : are_below (length a.states) (c ∷ rest) ≡ true → c < length b.states → (k : ℕ) → is_among rest k ≡ false → (t : Bool) → (c == k) ≡ t
+        → get_or (set b.states c x) k 0 ≡ f k (get_or a.states k 0)
+    moves below inside k h true g =
+        let same : c ≡ k = eqb-true c k g in
+        subst (λ n. get_or (set b.states c x) n 0 ≡ f n (get_or a.states n 0)) same (get_or-set_same b.states c x 0 inside ∙ e)
+    moves below inside k h false g =
+        let out : is_among (c ∷ rest) k ≡ false = rw g h in
+        get_or-set_other b.states c k x 0 (λ q. eqb-false c k g (sym q)) ∙ before.moved k (subst (λ xs. is_among xs k ≡ false) (sym first) out)
+
+    waits : (k : ℕ) → is_among rest k ≡ true → (t : Bool) → (c == k) ≡ t → get_or (set b.states c x) k 0 ≡ get_or a.states k 0
+    waits k h true g =
+        let same : c ≡ k = eqb-true c k g in
+        let out : is_among rest c ≡ false = subst (λ xs. is_among xs c ≡ false) (sym gone) (among_without_same c left) in
+        let inside : is_among rest c ≡ true = subst (λ n. is_among rest n ≡ true) (sym same) h in
+        absurd (cc (sym out ∙ inside))
+    waits k h false g =
+        let among : is_among (c ∷ rest) k ≡ true = rw g h in
+        get_or-set_other b.states c k x 0 (λ q. eqb-false c k g (sym q)) ∙ before.waiting k (subst (λ xs. is_among xs k ≡ true) (sym first) among)
+
+pub all_moved : (f : ℕ → ℕ → ℕ) (a b : State) → HasMoved f a b [] → b ≡ record a { states = each_from f 0 a.states }
+all_moved f a b before =
+    let moved : b.states ≡ each_from f 0 a.states = each_is f a.states b.states before.cores (λ k h. before.moved k refl) in
     ap (λ xs. record b { states = xs }) moved ∙ ap (λ s. record b { states = each_from f 0 a.states; home = s }) before.home
     ∙ ap (λ w. record a { states = each_from f 0 a.states; word = w }) before.word
 
 -- where a request leads a core that hasn't moved yet is where it led it at first
-pub leads_as_first : (d : Draft) (q : Request) (f : ℕ → ℕ → ℕ) (a b : State) (i : ℕ) → HasMoved f a b i → taken d b.home q i (state_of b i) ≡ taken d a.home q i (state_of a i)
-leads_as_first d q f a b i before =
-    ap (λ s. taken d s q i (state_of b i)) before.home ∙ ap (taken d a.home q i) (before.waiting i (omega arith))
+pub leads_as_first : (d : Draft) (q : Request) (f : ℕ → ℕ → ℕ) (a b : State) (c : ℕ) (left : List ℕ) → HasMoved f a b left → is_among left c ≡ true
+    → taken d b.home q c (state_of b c) ≡ taken d a.home q c (state_of a c)
+leads_as_first d q f a b c left before among =
+    ap (λ s. taken d s q c (state_of b c)) before.home ∙ ap (taken d a.home q c) (before.waiting c among)
 
 -- it has the row for its forward that it had at first
-pub has_its_row : (d : Draft) (q : Request) (f : ℕ → ℕ → ℕ) (a b : State) (i : ℕ) → HasItsRows d a q → HasMoved f a b i
-    → (m : ℕ) → sent d b.home q i ≡ Some m → IsSome (take_row d (state_of b i) m)
-has_its_row d q f a b i rows before m e =
-    let (t, at) = rows.takes i m (ap (λ s. sent d s q i) (sym before.home) ∙ e) in
-    subst (λ x. IsSome (take_row d x m)) (sym (before.waiting i (omega arith))) (subst IsSome (sym at) refl)
+pub has_its_row : (d : Draft) (q : Request) (f : ℕ → ℕ → ℕ) (a b : State) (c : ℕ) (left : List ℕ) → HasItsRows d a q → HasMoved f a b left
+    → is_among left c ≡ true → (m : ℕ) → sent d b.home q c ≡ Some m → IsSome (take_row d (state_of b c) m)
+has_its_row d q f a b c left rows before among m e =
+    let (t, at) = rows.takes c m (ap (λ s. sent d s q c) (sym before.home) ∙ e) in
+    subst (λ x. IsSome (take_row d x m)) (sym (before.waiting c among)) (subst IsSome (sym at) refl)
+
+-- the first is among them
+pub first_among : (c : ℕ) (left rest : List ℕ) → left ≡ c ∷ rest → is_among left c ≡ true
+first_among c left rest first =
+    let same : (c == c) ≡ true = eq-eqb c c refl in
+    let here : is_among (c ∷ rest) c ≡ true = rw same refl in
+    subst (λ xs. is_among xs c ≡ true) (sym first) here
 
 -- who asks moves to the state in which it ends
 at_asker : (d : Draft) (a : State) (q : Request) (x : ℕ) → moved d a q q.core x ≡ ends_at d a q.core q.event

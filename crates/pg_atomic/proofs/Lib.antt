@@ -5,8 +5,8 @@ pub mod Transactions
 pub mod Accesses
 pub mod Reached
 pub mod Operations
-pub mod Marked
 pub mod Starts
 pub mod Runs
 pub mod Each
+pub mod Received
 pub mod Homes

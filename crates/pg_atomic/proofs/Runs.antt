@@ -1,5 +1,7 @@
 -- A run that goes one step further, and what is so where a transaction begins.
 use Rattle.std.proofs.Common.{◌≡◌, ℕ, ◌<◌, true, List, [], ◌∷◌, ◌++◌, length, Some, refl, sym, ◌∙◌, subst, ap}
+use Rattle.std.specs.Prelude.{nat_lt}
+use Rattle.std.specs.List.{list_all}
 use Rattle.pg_perm.specs.declared.kinds.Event.{Event}
 use Rattle.pg_perm.specs.declared.step.Step.{Step}
 use Rattle.pg_perm.specs.declared.draft.Draft.{Draft}
@@ -33,3 +35,6 @@ rows_of d a c e whole shaped reached inside need = (runs_safely d (length a.stat
 
 pub owner_inside : (d : Draft) (a : State) → IsWellFormed d → IsShaped d → IsReached d (length a.states) a → (o : ℕ) → a.home.owner ≡ Some o → o < length a.states
 owner_inside d a whole shaped reached o e = ((runs_safely d (length a.states) a whole shaped reached).safe.home.owner o e).0
+
+pub sharers_inside : (d : Draft) (a : State) → IsWellFormed d → IsShaped d → IsReached d (length a.states) a → list_all (λ c. nat_lt c (length a.states)) a.home.sharers ≡ true
+sharers_inside d a whole shaped reached = (runs_safely d (length a.states) a whole shaped reached).safe.home.inside

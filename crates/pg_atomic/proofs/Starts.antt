@@ -1,5 +1,5 @@
 -- The idle directory state is there, and how a machine starts.
-use Rattle.std.proofs.Common.{◌≡◌, ℕ, Bool, false, List, [], replicate, Option, Some, None, refl, sym, ap, ◌∙◌}
+use Rattle.std.proofs.Common.{◌≡◌, ℕ, Bool, List, [], replicate, Option, Some, None, refl, sym, ap, ◌∙◌}
 use Rattle.std.specs.Prelude.{IsSome, position, unwrap_or}
 use Rattle.std.specs.List.{list_any}
 use Rattle.pg_perm.specs.declared.draft.Draft.{Draft}
@@ -11,8 +11,6 @@ use Rattle.pg_shape.specs.Shaped.{IsShaped}
 use Rattle.pg_shape.proofs.Searches.{map_or_get, any_at, position_none, not_both}
 use Rattle.pg_standing.specs.Standings.{Standing, start}
 use Rattle.pg_atomic.specs.States.{State, out_state, opening}
-use Rattle.pg_atomic.specs.Marks.{marked}
-use Rattle.pg_atomic.proofs.Marked.{none_from}
 
 abbrev is_idle : DirLine → Bool
 is_idle l = same_kind kind.Idle l.kind
@@ -25,11 +23,10 @@ has_idle d None shaped e =
     absurd (not_both (list_any is_idle d.dirs) (any_at is_idle d.dirs n l at passes) (position_none is_idle d.dirs (sym e)))
 
 -- the state of which the parts are those of the start is the start
-pub opens : (d : Draft) (n o i : ℕ) (xs : List ℕ) (marks : List Bool) → out d ≡ Some o → xs ≡ replicate n o → marks ≡ replicate n false → i ≡ (start d).dir
-    → let made : State = record { states = xs; home = record { dir = i; owner = None; sharers = marked marks }; word = 0 } in made ≡ opening d n
-opens d n o i xs marks first states clear idle =
+pub opens : (d : Draft) (n o i : ℕ) (xs cores : List ℕ) → out d ≡ Some o → xs ≡ replicate n o → cores ≡ [] → i ≡ (start d).dir
+    → let made : State = record { states = xs; home = record { dir = i; owner = None; sharers = cores }; word = 0 } in made ≡ opening d n
+opens d n o i xs cores first states none idle =
     let each : xs ≡ replicate n (out_state d) = states ∙ ap (λ x. replicate n (unwrap_or x 0)) (sym first) in
-    let none : marked marks ≡ [] = ap marked clear ∙ none_from n 0 in
-    ap (λ (ys : List ℕ). record { states = ys; home = record { dir = i; owner = None; sharers = marked marks }; word = 0 }) each
+    ap (λ (ys : List ℕ). record { states = ys; home = record { dir = i; owner = None; sharers = cores }; word = 0 }) each
     ∙ ap (λ (s : Standing). record { states = replicate n (out_state d); home = s; word = 0 })
-    (ap (λ (j : ℕ). record { dir = j; owner = None; sharers = marked marks }) idle ∙ ap (λ (cs : List ℕ). record (start d) { sharers = cs }) none)
+    (ap (λ (j : ℕ). record { dir = j; owner = None; sharers = cores }) idle ∙ ap (λ (cs : List ℕ). record (start d) { sharers = cs }) none)

@@ -1,4 +1,4 @@
-pub mod Marks
+pub mod Receivers
 pub mod States
 pub mod Steps
 pub mod Scripts

@@ -3,7 +3,6 @@
 
 mod laws;
 mod machine;
-mod marks;
 mod rows;
 
 pub use laws::{homes_follow, operations_are_runs, runs_are_safe};

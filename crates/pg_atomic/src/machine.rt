@@ -1,4 +1,5 @@
-ghost use Rattle.std.specs.Prelude.{ℕ, ◌≡◌, ◌≢◌, ◌<◌, ◌≤◌, true, length, IfOk, Some, IsSome};
+ghost use Rattle.std.specs.Prelude.{ℕ, ◌≡◌, ◌≢◌, ◌<◌, ◌≤◌, true, nat_lt, length, IfOk, Some, IsSome};
+ghost use Rattle.std.specs.List.{list_all};
 ghost use Rattle.std.specs.Option.{option_and_then};
 ghost use Rattle.pg_perm.specs.declared.step.Step.TheVariants as step;
 ghost use Rattle.pg_standing.specs.Standings as standings;
@@ -10,11 +11,13 @@ ghost use Rattle.pg_terms.specs.Rows as says;
 ghost use Rattle.pg_atomic.specs.States as states;
 ghost use Rattle.pg_atomic.specs.Steps as steps;
 ghost use Rattle.pg_atomic.specs.Accesses as accesses;
+ghost use Rattle.pg_atomic.specs.Receivers as receive;
 ghost use Rattle.pg_atomic.specs.Safe.{HasItsRows};
 
-use crate::{marks, rows};
-use pg_perm::{Access, Action, DirKind, Draft, Event, FwdClass, ReplyName, ReqClass, RowLine, Who};
+use crate::rows;
+use pg_perm::{Access, Action, DirKind, Draft, Event, ReplyName, ReqClass, RowLine, Who};
 use pg_shape::Protocol;
+use pg_standing::CoreSet;
 use pg_terms as terms;
 use pg_terms::DirCase;
 use std::alloc::{AllocError, Global};
@@ -30,21 +33,19 @@ pub struct Atomic {
     states: Vec<u8>,
     dir: u8,
     owner: Option<u32>,
-    /// A mark for each core that shares.
-    sharing: Vec<bool>,
+    sharers: CoreSet,
     word: u32,
 }
 
 impl Model for Atomic {
-    ghost use Rattle.std.specs.Prelude.{◌≡◌, length};
+    ghost use Rattle.std.specs.Prelude.{◌≤◌, length};
     ghost use Rattle.pg_atomic.specs.States.{State};
-    ghost use Rattle.pg_atomic.specs.Marks.{marked};
 
     ghost Value = { State };
 
-    ghost view = { λ a. record { states = a.states.items; home = record { dir = a.dir; owner = a.owner; sharers = marked a.sharing.items }; word = a.word } };
+    ghost view = { λ a. record { states = a.states.items; home = record { dir = a.dir; owner = a.owner; sharers = a.sharers }; word = a.word } };
 
-    ghost invariant = { λ a. length a.sharing.items ≡ length a.states.items };
+    ghost invariant = { λ a. length a.states.items ≤ 64 };
 }
 
 /// Where a transaction led: the state of the core that asked, and that of the directory.
@@ -68,7 +69,7 @@ impl Atomic {
             states: vec![in alloc; rows::out(draft); cores]?,
             dir: rows::idle(draft),
             owner: None,
-            sharing: vec![in alloc; false; cores]?,
+            sharers: CoreSet::new(),
             word: 0,
         })
     }
@@ -143,7 +144,7 @@ impl Atomic {
         requires rows { HasItsRows draft.now self.now (record { core = core; event = event }) }
         ensures { standings.row_of draft.now self.now.home (record { core = core; event = event }) ≡ Some result.now }
     {
-        terms::dir_row(draft, usize::from(self.dir), self.case(core, event)).unwrap()
+        terms::dir_row(draft, self.dir, self.case(core, event)).unwrap()
     }
 
     /// The case of a request.
@@ -155,9 +156,7 @@ impl Atomic {
         match event {
             Event::Load => DirCase::Ask(ReqClass::Read, who),
             Event::Store => DirCase::Ask(ReqClass::Write, who),
-            Event::Evict => {
-                DirCase::Evict(who, marks::left_without(&self.sharing, core as usize))
-            }
+            Event::Evict => { DirCase::Evict(who, self.sharers.left_without(core)) }
         }
     }
 
@@ -166,19 +165,19 @@ impl Atomic {
         requires { core < length self.now.states }
         ensures { result ≡ standings.who self.now.home core }
     {
-        if self.is_owner(core as usize) {
+        if self.is_owner(core) {
             Who::Owner
-        } else if marks::has(&self.sharing, core as usize) {
+        } else if self.sharers.has(core) {
             Who::Sharer
         } else {
             Who::Other
         }
     }
 
-    fn is_owner(&self, core: usize) -> bool
+    fn is_owner(&self, core: u32) -> bool
         ensures { result ≡ term.is self.now.home.owner core }
     {
-        self.owner.is_some_and(|owner| owner as usize == core)
+        self.owner.is_some_and(|owner| owner == core)
     }
 
     /// The state in which who asks ends.
@@ -204,7 +203,7 @@ impl Atomic {
         ensures { result ≡ option_and_then (says.final draft.now (states.state_of self.now core) event) (states.reply_by draft.now self.now (says.action_in row.now.form)) }
     {
         let name = self.reply(draft, terms::action_in(row.form)?)?;
-        terms::final_state(draft, usize::from(self.states[core as usize]), event, name)
+        terms::final_state(draft, self.states[core as usize], event, name)
     }
 
     /// The reply that who asks gets.
@@ -227,16 +226,15 @@ impl Atomic {
         ensures { result ≡ option_and_then (λ o. says.reply_to draft.now (states.state_of self.now o) forward) self.now.home.owner }
     {
         let owner = self.owner?;
-        terms::reply_to(
-            draft,
-            usize::from(self.states[owner as usize]),
-            usize::from(forward),
-        )
+        terms::reply_to(draft, self.states[owner as usize], forward)
     }
 
     /// Who asks moves to the state in which it ends, and each core that is sent a forward takes it.
     fn move_cores(&mut self, draft: &Draft, core: u32, event: Event, row: &RowLine, end: u8)
+        requires well_formed { IsWellFormed draft.now }
         requires core { core < length self.old.states }
+        requires owner { (o : ℕ) → self.old.home.owner ≡ Some o → o < length self.old.states }
+        requires sharers { list_all (λ c. nat_lt c (length self.old.states)) self.old.home.sharers ≡ true }
         requires row { standings.row_of draft.now self.old.home (record { core = core; event = event }) ≡ Some row.now }
         requires rows { HasItsRows draft.now self.old (record { core = core; event = event }) }
         requires end { end ≡ states.ends_at draft.now self.old core event }
@@ -248,24 +246,54 @@ impl Atomic {
 
     /// Each core that is sent a forward takes it.
     fn take_forwards(&mut self, draft: &Draft, core: u32, event: Event, row: &RowLine)
+        requires well_formed { IsWellFormed draft.now }
+        requires core { core < length self.old.states }
+        requires owner { (o : ℕ) → self.old.home.owner ≡ Some o → o < length self.old.states }
+        requires sharers { list_all (λ c. nat_lt c (length self.old.states)) self.old.home.sharers ≡ true }
         requires row { standings.row_of draft.now self.old.home (record { core = core; event = event }) ≡ Some row.now }
         requires rows { HasItsRows draft.now self.old (record { core = core; event = event }) }
         ensures { self.new ≡ record self.old { states = states.each_from (states.taken draft.now self.old.home (record { core = core; event = event })) 0 self.old.states } }
     {
-        for to in 0..self.states.len() {
+        let mut left = self.receivers(core, event);
+        while let Some(to) = left.pop_first() {
             let next = self.taken(draft, core, event, row, to);
-            self.states[to] = next;
+            self.states[to as usize] = next;
+        }
+    }
+
+    /// The cores to which a request may send a forward.
+    fn receivers(&self, core: u32, event: Event) -> CoreSet
+        requires core { core < length self.now.states }
+        requires owner { (o : ℕ) → self.now.home.owner ≡ Some o → o < length self.now.states }
+        ensures { result ≡ receive.receivers self.now.home (record { core = core; event = event }) }
+    {
+        let mut cores = self.invalidated(event);
+        if let Some(owner) = self.owner {
+            cores.add(owner);
+        }
+        cores.remove(core);
+        cores
+    }
+
+    /// The cores that may be sent an inv.
+    fn invalidated(&self, event: Event) -> CoreSet
+        ensures { result ≡ receive.invalidated self.now.home event }
+    {
+        match event {
+            Event::Load | Event::Evict => CoreSet::new(),
+            Event::Store => self.sharers.copy(),
         }
     }
 
     /// Where a request of another leads a core, which has a row for the forward that it is sent.
-    fn taken(&self, draft: &Draft, core: u32, event: Event, row: &RowLine, to: usize) -> u8
+    fn taken(&self, draft: &Draft, core: u32, event: Event, row: &RowLine, to: u32) -> u8
+        requires well_formed { IsWellFormed draft.now }
         requires to { to < length self.now.states }
         requires row { standings.row_of draft.now self.now.home (record { core = core; event = event }) ≡ Some row.now }
         requires take { (f : ℕ) → sent draft.now self.now.home (record { core = core; event = event }) to ≡ Some f → IsSome (term.take_row draft.now (states.state_of self.now to) f) }
         ensures { result ≡ states.taken draft.now self.now.home (record { core = core; event = event }) to (states.state_of self.now to) }
     {
-        let state = self.states[to];
+        let state = self.states[to as usize];
         match self.sent(draft, core, event, row, to) {
             Some(forward) => rows::take_next(draft, state, forward),
             None => state,
@@ -273,21 +301,15 @@ impl Atomic {
     }
 
     /// The forward that a row of a request sends to a core.
-    fn sent(
-        &self,
-        draft: &Draft,
-        core: u32,
-        event: Event,
-        row: &RowLine,
-        to: usize,
-    ) -> Option<usize>
-        requires { to < length self.now.states }
+    fn sent(&self, draft: &Draft, core: u32, event: Event, row: &RowLine, to: u32) -> Option<u8>
+        requires well_formed { IsWellFormed draft.now }
+        requires to { to < length self.now.states }
         ensures { result ≡ sent_by draft.now self.now.home (record { core = core; event = event }) to row.now }
     {
-        if core as usize == to {
+        if core == to {
             None
-        } else if event == Event::Store && marks::has(&self.sharing, to) {
-            terms::forward_of(draft, FwdClass::Inv)
+        } else if event == Event::Store && self.sharers.has(to) {
+            rows::inv(draft)
         } else if self.is_owner(to) {
             terms::forward_in(row.form)
         } else {
@@ -317,10 +339,10 @@ impl Atomic {
         if terms::is_by_share(draft, row) {
             self.share();
         }
-        if terms::kind_is(DirKind::Owned, draft, usize::from(row.next)) {
+        if terms::kind_is(DirKind::Owned, draft, row.next) {
             self.owner = Some(core);
         } else {
-            marks::add(&mut self.sharing, core as usize);
+            self.sharers.add(core);
         }
         self.dir = row.next;
     }
@@ -331,7 +353,7 @@ impl Atomic {
         ensures { self.new ≡ record self.old { home = standings.after_share self.old.home } }
     {
         if let Some(owner) = self.owner.take() {
-            marks::add(&mut self.sharing, owner as usize);
+            self.sharers.add(owner);
         }
     }
 
@@ -340,7 +362,7 @@ impl Atomic {
         ensures { self.new ≡ record self.old { home = standings.after_write row.now core self.old.home } }
     {
         self.owner = Some(core);
-        marks::clear(&mut self.sharing);
+        self.sharers.clear();
         self.dir = row.next;
     }
 
@@ -349,10 +371,10 @@ impl Atomic {
         requires { core < length self.old.states }
         ensures { self.new ≡ record self.old { home = standings.after_evict row.now core self.old.home } }
     {
-        if self.is_owner(core as usize) {
+        if self.is_owner(core) {
             self.owner = None;
         }
-        marks::remove(&mut self.sharing, core as usize);
+        self.sharers.remove(core);
         self.dir = row.next;
     }
 

@@ -6,7 +6,7 @@ ghost use Rattle.pg_atomic_run.specs.Histories as histories;
 ghost use Rattle.pg_atomic_run.specs.Blocks as state;
 
 use crate::block::Block;
-use pg_history::history_text;
+use pg_history::write_history;
 use pg_script::{Script, ScriptOp};
 use pg_shape::Protocol;
 use std::alloc::{AllocError, Global};
@@ -59,8 +59,7 @@ fn texts(alloc: Global, blocks: &[Block]) -> Result<Vec<u8>, AllocError>
     let mut number = 0;
     let mut left = blocks;
     while let Some((block, rest)) = left.split_first() {
-        let lines = history_text(alloc, number, &block.steps)?;
-        text.extend_from_slice(&lines)?;
+        write_history(&mut text, number, &block.steps)?;
         number += 1;
         left = rest;
     }

@@ -1,6 +1,6 @@
 use Rattle.std.proofs.Common.{◌≡◌, ℕ, true, List, ◌∷◌, ap, sym, ◌∙◌, Some}
 use Rattle.std.specs.Prelude.{◌&&◌}
-use Rattle.pg_perm.proofs.Booleans.{both}
+use Rattle.std.proofs.lemmas.Bool.{and_parts}
 use Rattle.pg_perm.specs.Names.{is_name, is_state_name}
 use Rattle.pg_lines.specs.Lines.{first_rest}
 use Rattle.pg_lines.proofs.Firsts.{first_rest_is}
@@ -18,4 +18,4 @@ pub pairs_go_on : (left rest behind : List (List ℕ)) (reply fin : List ℕ) �
     → are_pairs left ≡ true → are_pairs behind ≡ true
 pairs_go_on left rest behind reply fin h g all =
     let whole : left ≡ reply ∷ fin ∷ behind = first_rest_is left reply rest h ∙ ap (λ ws. reply ∷ ws) (first_rest_is rest fin behind g) in
-    (both (is_name reply && is_state_name fin) (are_pairs behind) (sym (ap are_pairs whole) ∙ all)).1
+    (and_parts (is_name reply && is_state_name fin) (are_pairs behind) (sym (ap are_pairs whole) ∙ all)).1

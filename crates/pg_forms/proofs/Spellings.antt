@@ -1,29 +1,24 @@
 -- A line that is read is spelled so, and what is spelled so is read again.
-use Rattle.std.proofs.Common.{◌≡◌, ℕ, Bool, true, false, List, [], ◌∷◌, Option, Some, None, refl, sym, ap, subst, ◌∙◌}
+use Rattle.std.proofs.Common.{◌≡◌, ℕ, Bool, true, false, List, [], ◌∷◌, Option, Some, None, refl, sym, ap, subst, ◌∙◌, cond}
 use Rattle.std.specs.Prelude.{◌≢◌, ◌&&◌, codes, IsTrue, IfSome}
 use Rattle.std.proofs.lemmas.Option.{same_Some, cond_some}
-use Rattle.std.proofs.lemmas.Bool.{and_from}
+use Rattle.std.proofs.lemmas.Bool.{and_from, and_parts}
 use Rattle.std.specs.Str.{bytes_eq}
 use Rattle.pg_perm.specs.Names.{is_name, is_state_name}
-use Rattle.pg_perm.specs.Words.{role_word, perm_word, request_word, event_word, dir_word, forward_word, who_word, left_word}
+use Rattle.pg_perm.specs.Vocabularies.{find_word}
+use Rattle.pg_perm.specs.Words.{role_word, roles, roles_listed, perm_word, perms, perms_listed, dir_word, dir_kinds, dir_kinds_listed, request_word, requests, requests_listed, forward_word, forwards, forwards_listed, event_word, events, events_listed, who_word, senders, senders_listed, holders, left_word, lefts, lefts_listed}
+use Rattle.pg_perm.proofs.ReadBack.{word_again, word_found}
 use Rattle.pg_perm.specs.declared.kinds.Role.{Role}
-use Rattle.pg_perm.specs.declared.kinds.Role.TheVariants.{Out, Shared, Owner}
 use Rattle.pg_perm.specs.declared.kinds.Perm.{Perm}
-use Rattle.pg_perm.specs.declared.kinds.Perm.TheVariants as perm
 use Rattle.pg_perm.specs.declared.kinds.ReqClass.{ReqClass}
-use Rattle.pg_perm.specs.declared.kinds.ReqClass.TheVariants as asks
 use Rattle.pg_perm.specs.declared.kinds.DirKind.{DirKind}
-use Rattle.pg_perm.specs.declared.kinds.DirKind.TheVariants as knows
 use Rattle.pg_perm.specs.declared.kinds.FwdClass.{FwdClass}
-use Rattle.pg_perm.specs.declared.kinds.FwdClass.TheVariants as asked
 use Rattle.pg_perm.specs.declared.kinds.Who.{Who}
 use Rattle.pg_perm.specs.declared.kinds.Who.TheVariants as who
 use Rattle.pg_perm.specs.declared.kinds.Left.{Left}
-use Rattle.pg_perm.specs.declared.kinds.Left.TheVariants as left
 use Rattle.pg_perm.specs.declared.kinds.Event.{Event}
 use Rattle.pg_perm.specs.declared.kinds.Event.TheVariants.{Load, Store, Evict}
 use Rattle.pg_perm.specs.declared.draft.MsgClass.TheVariants.{Request, Forward, Reply}
-use Rattle.pg_perm.proofs.Booleans.{both}
 use Rattle.pg_forms.specs.declared.line.Line.{Line}
 use Rattle.pg_forms.specs.declared.line.Line.TheVariants.{Protocol, Cache, Dir, Message, Core, Take, Row, End}
 use Rattle.pg_forms.specs.declared.line.RowShape.{RowShape}
@@ -34,147 +29,32 @@ use Rattle.pg_lines.specs.Lines.{first_rest}
 use Rattle.pg_forms.specs.Forms.{shape_words, spelling, IsShapeOf, IsRowShape, IsWellNamed}
 use Rattle.std.specs.List.{list_all}
 use Rattle.pg_forms.specs.Pairs.{are_pairs, pairs_in, words_in, is_named_pair}
-use Rattle.pg_forms.specs.Reading.{role_of, perm_of, request_of, dir_kind_of, forward_of, who_of, holder_of, left_of, event_of}
 use Rattle.pg_forms.specs.Reading.{name_at, state_at, ended, protocol_line, clean_of}
 use Rattle.pg_forms.specs.Reading.{cache_line, dir_line, request_line, forward_line, reply_line, asking_shape, leaving_shape, shape_of, core_line}
 use Rattle.pg_forms.specs.Reading.{take_line_end, take_line, asking_row, evicting_row, row_shape, row_line, end_line, line_after, line_of}
 use Rattle.pg_forms.proofs.Options.{then_some, told, told_apart, same_word, other_word, nothing_found}
 use Rattle.pg_lines.proofs.Firsts.{first_rest_is}
 
--- a word that is read as a role is the word of that role
-role_found : (w : List ℕ) (r : Role) → role_of w ≡ Some r → w ≡ role_word r
-role_found w r =
-    told (λ r. w ≡ role_word r) w (codes "out") _ _ r (λ h e. h ∙ ap role_word (same_Some _ _ e))
-    (told (λ r. w ≡ role_word r) w (codes "shared") _ _ r (λ h e. h ∙ ap role_word (same_Some _ _ e))
-    (told (λ r. w ≡ role_word r) w (codes "owner") _ _ r (λ h e. h ∙ ap role_word (same_Some _ _ e))
-    (nothing_found r)))
-
--- the word of a role is read as that role
-role_again : (r : Role) → role_of (role_word r) ≡ Some r
-role_again Out = refl
-role_again Shared = refl
-role_again Owner = refl
-
--- a word that is read as a permission is the word of that permission
-perm_found : (w : List ℕ) (p : Perm) → perm_of w ≡ Some p → w ≡ perm_word p
-perm_found w p =
-    told (λ p. w ≡ perm_word p) w (codes "none") _ _ p (λ h e. h ∙ ap perm_word (same_Some _ _ e))
-    (told (λ p. w ≡ perm_word p) w (codes "read") _ _ p (λ h e. h ∙ ap perm_word (same_Some _ _ e))
-    (told (λ p. w ≡ perm_word p) w (codes "write") _ _ p (λ h e. h ∙ ap perm_word (same_Some _ _ e))
-    (nothing_found p)))
-
--- the word of a permission is read as that permission
-perm_again : (p : Perm) → perm_of (perm_word p) ≡ Some p
-perm_again perm.None = refl
-perm_again perm.Read = refl
-perm_again perm.Write = refl
-
--- a word that is read as what a request asks is the word of that
-request_found : (w : List ℕ) (q : ReqClass) → request_of w ≡ Some q → w ≡ request_word q
-request_found w q =
-    told (λ q. w ≡ request_word q) w (codes "read") _ _ q (λ h e. h ∙ ap request_word (same_Some _ _ e))
-    (told (λ q. w ≡ request_word q) w (codes "write") _ _ q (λ h e. h ∙ ap request_word (same_Some _ _ e))
-    (told (λ q. w ≡ request_word q) w (codes "clean") _ _ q (λ h e. h ∙ ap request_word (same_Some _ _ e))
-    (told (λ q. w ≡ request_word q) w (codes "dirty") _ _ q (λ h e. h ∙ ap request_word (same_Some _ _ e))
-    (nothing_found q))))
-
--- the word of what a request asks is read as that
-request_again : (q : ReqClass) → request_of (request_word q) ≡ Some q
-request_again asks.Read = refl
-request_again asks.Write = refl
-request_again asks.Clean = refl
-request_again asks.Dirty = refl
-
--- a word that is read as an event is the word of that event
-event_found : (w : List ℕ) (v : Event) → event_of w ≡ Some v → w ≡ event_word v
-event_found w v =
-    told (λ v. w ≡ event_word v) w (codes "load") _ _ v (λ h e. h ∙ ap event_word (same_Some _ _ e))
-    (told (λ v. w ≡ event_word v) w (codes "store") _ _ v (λ h e. h ∙ ap event_word (same_Some _ _ e))
-    (told (λ v. w ≡ event_word v) w (codes "evict") _ _ v (λ h e. h ∙ ap event_word (same_Some _ _ e))
-    (nothing_found v)))
-
--- the word of an event is read as that event
-event_again : (v : Event) → event_of (event_word v) ≡ Some v
-event_again Load = refl
-event_again Store = refl
-event_again Evict = refl
-
--- a word that is read as what a directory state knows is the word of that
-dir_kind_found : (w : List ℕ) (k : DirKind) → dir_kind_of w ≡ Some k → w ≡ dir_word k
-dir_kind_found w k =
-    told (λ k. w ≡ dir_word k) w (codes "idle") _ _ k (λ h e. h ∙ ap dir_word (same_Some _ _ e))
-    (told (λ k. w ≡ dir_word k) w (codes "shared") _ _ k (λ h e. h ∙ ap dir_word (same_Some _ _ e))
-    (told (λ k. w ≡ dir_word k) w (codes "owned") _ _ k (λ h e. h ∙ ap dir_word (same_Some _ _ e))
-    (told (λ k. w ≡ dir_word k) w (codes "mixed") _ _ k (λ h e. h ∙ ap dir_word (same_Some _ _ e))
-    (nothing_found k))))
-
--- the word of what a directory state knows is read as that
-dir_kind_again : (k : DirKind) → dir_kind_of (dir_word k) ≡ Some k
-dir_kind_again knows.Idle = refl
-dir_kind_again knows.Shared = refl
-dir_kind_again knows.Owned = refl
-dir_kind_again knows.Mixed = refl
-
--- a word that is read as what a forward asks is the word of that
-forward_found : (w : List ℕ) (f : FwdClass) → forward_of w ≡ Some f → w ≡ forward_word f
-forward_found w f =
-    told (λ f. w ≡ forward_word f) w (codes "inv") _ _ f (λ h e. h ∙ ap forward_word (same_Some _ _ e))
-    (told (λ f. w ≡ forward_word f) w (codes "share") _ _ f (λ h e. h ∙ ap forward_word (same_Some _ _ e))
-    (told (λ f. w ≡ forward_word f) w (codes "keep") _ _ f (λ h e. h ∙ ap forward_word (same_Some _ _ e))
-    (told (λ f. w ≡ forward_word f) w (codes "drop") _ _ f (λ h e. h ∙ ap forward_word (same_Some _ _ e))
-    (nothing_found f))))
-
--- the word of what a forward asks is read as that
-forward_again : (f : FwdClass) → forward_of (forward_word f) ≡ Some f
-forward_again asked.Inv = refl
-forward_again asked.Share = refl
-forward_again asked.Keep = refl
-forward_again asked.Drop = refl
-
--- a word that is read as a sender is the word of that sender
-who_found : (w : List ℕ) (s : Who) → who_of w ≡ Some s → w ≡ who_word s
-who_found w s =
-    told (λ s. w ≡ who_word s) w (codes "other") _ _ s (λ h e. h ∙ ap who_word (same_Some _ _ e))
-    (told (λ s. w ≡ who_word s) w (codes "sharer") _ _ s (λ h e. h ∙ ap who_word (same_Some _ _ e))
-    (told (λ s. w ≡ who_word s) w (codes "owner") _ _ s (λ h e. h ∙ ap who_word (same_Some _ _ e))
-    (nothing_found s)))
-
--- the word of a sender is read as that sender
-who_again : (s : Who) → who_of (who_word s) ≡ Some s
-who_again who.Other = refl
-who_again who.Sharer = refl
-who_again who.Owner = refl
-
 -- a sender that may evict
 abbrev IsHolder : Who → Type 0
 IsHolder s = (others : Left) → IsRowShape (row.Evict s others)
 
 -- a word that is read as the sender of an evict is the word of one that may evict
-holder_found : (w : List ℕ) (s : Who) → holder_of w ≡ Some s → (w ≡ who_word s) × IsHolder s
-holder_found w s =
-    told (λ s. (w ≡ who_word s) × IsHolder s) w (codes "sharer") _ _ s
-    (λ h e. subst (λ s. (w ≡ who_word s) × IsHolder s) (same_Some _ _ e) (h, λ others. tt))
-    (told (λ s. (w ≡ who_word s) × IsHolder s) w (codes "owner") _ _ s
-    (λ h e. subst (λ s. (w ≡ who_word s) × IsHolder s) (same_Some _ _ e) (h, λ others. tt))
-    (nothing_found s))
+holder_found : (w : List ℕ) (s : Who) → find_word who_word holders w ≡ Some s → (w ≡ who_word s) × IsHolder s
+holder_found w s e = (word_found who_word holders w s e, at (bytes_eq w (codes "sharer")) (bytes_eq w (codes "owner")) s e)
+  where
+    at : (a b : Bool) (s : Who) → cond a (Some who.Sharer) (cond b (Some who.Owner) None) ≡ Some s → IsHolder s
+    at true b who.Other e = absurd cc
+    at false true who.Other e = absurd cc
+    at false false who.Other e = absurd cc
+    at a b who.Sharer e = λ others. tt
+    at a b who.Owner e = λ others. tt
 
 -- the word of a sender that may evict is read as that sender
-holder_again : (s : Who) (others : Left) → IsRowShape (row.Evict s others) → holder_of (who_word s) ≡ Some s
+holder_again : (s : Who) (others : Left) → IsRowShape (row.Evict s others) → find_word who_word holders (who_word s) ≡ Some s
 holder_again who.Other others h = absurd h
 holder_again who.Sharer others h = refl
 holder_again who.Owner others h = refl
-
--- a word that is read as whether sharers are left is the word of that
-left_found : (w : List ℕ) (m : Left) → left_of w ≡ Some m → w ≡ left_word m
-left_found w m =
-    told (λ m. w ≡ left_word m) w (codes "last") _ _ m (λ h e. h ∙ ap left_word (same_Some _ _ e))
-    (told (λ m. w ≡ left_word m) w (codes "more") _ _ m (λ h e. h ∙ ap left_word (same_Some _ _ e))
-    (nothing_found m))
-
--- the word of whether sharers are left is read as that
-left_again : (m : Left) → left_of (left_word m) ≡ Some m
-left_again left.Last = refl
-left_again left.More = refl
 
 -- where a name is read, the words are that name and the rest
 name_found : (ws : List (List ℕ)) (x : List ℕ × List (List ℕ)) → name_at ws ≡ Some x → (ws ≡ x.0 ∷ x.1) × IsTrue (is_name x.0)
@@ -250,9 +130,9 @@ unfolding cache_line
 cache_found ws l e =
     then_some (state_at ws) _ l e (λ name named e.
     then_some (first_rest name.1) _ l e (λ a first e.
-    then_some (role_of a.0) _ l e (λ role is_role e.
+    then_some (find_word role_word roles a.0) _ l e (λ role is_role e.
     then_some (first_rest a.1) _ l e (λ b second e.
-    then_some (perm_of b.0) _ l e (λ perm is_perm e.
+    then_some (find_word perm_word perms b.0) _ l e (λ perm is_perm e.
     then_some (clean_of b.1) _ l e (λ clean is_clean e.
     let n = state_found ws name named in
     subst (Spells (codes "cache" ∷ ws)) (same_Some (Cache name.0 role perm clean) l e) (
@@ -260,9 +140,9 @@ cache_found ws l e =
         cache_spelling name.0 role perm clean,
         n.0,
         first_rest_is name.1 a.0 a.1 (sym first),
-        role_found a.0 role is_role,
+        word_found role_word roles a.0 role is_role,
         first_rest_is a.1 b.0 b.1 (sym second),
-        perm_found b.0 perm is_perm,
+        word_found perm_word perms b.0 perm is_perm,
         clean_found b.1 clean is_clean,
       ),
       n.1,
@@ -278,7 +158,7 @@ cache_again : (name : List ℕ) (role : Role) (perm : Perm) (clean : Bool) → I
     → cache_line (name ∷ role_word role ∷ perm_word perm ∷ clean_words clean) ≡ Some (Cache name role perm clean)
 unfolding cache_line
 cache_again name role perm clean h =
-    rw (state_again name (role_word role ∷ perm_word perm ∷ clean_words clean) h, role_again role, perm_again perm, clean_again clean) refl
+    rw (state_again name (role_word role ∷ perm_word perm ∷ clean_words clean) h, word_again role_word roles refl role (roles_listed role), word_again perm_word perms refl perm (perms_listed perm), clean_again clean) refl
 
 -- a dir line that is read is spelled by its words
 dir_found : (ws : List (List ℕ)) (l : Line) → dir_line ws ≡ Some l → Spells (codes "dir" ∷ ws) l
@@ -286,17 +166,17 @@ unfolding dir_line
 dir_found ws l e =
     then_some (state_at ws) _ l e (λ name named e.
     then_some (first_rest name.1) _ l e (λ word first e.
-    then_some (dir_kind_of word.0) _ l e (λ kind is_kind e.
+    then_some (find_word dir_word dir_kinds word.0) _ l e (λ kind is_kind e.
     let n = state_found ws name named in
     let t = cond_some (list_all is_state_name word.1) (Dir name.0 kind word.1) l e in
     subst (Spells (codes "dir" ∷ ws)) t.1
-    (cc (n.0, first_rest_is name.1 word.0 word.1 (sym first), dir_kind_found word.0 kind is_kind), (n.1, t.0)))))
+    (cc (n.0, first_rest_is name.1 word.0 word.1 (sym first), word_found dir_word dir_kinds word.0 kind is_kind), (n.1, t.0)))))
 
 -- the spelling of a dir line is read as that line
 dir_again : (name : List ℕ) (kind : DirKind) (beside : List (List ℕ)) → IsTrue (is_state_name name) → IsTrue (list_all is_state_name beside)
     → dir_line (name ∷ dir_word kind ∷ beside) ≡ Some (Dir name kind beside)
 unfolding dir_line
-dir_again name kind beside h g = rw (state_again name (dir_word kind ∷ beside) h, dir_kind_again kind, g) refl
+dir_again name kind beside h g = rw (state_again name (dir_word kind ∷ beside) h, word_again dir_word dir_kinds refl kind (dir_kinds_listed kind), g) refl
 
 -- a request line that is read is spelled by its words
 request_line_found : (ws : List (List ℕ)) (l : Line) → request_line ws ≡ Some l → Spells (codes "request" ∷ ws) l
@@ -304,17 +184,17 @@ unfolding request_line
 request_line_found ws l e =
     then_some (name_at ws) _ l e (λ name named e.
     then_some (first_rest name.1) _ l e (λ word first e.
-    then_some (request_of word.0) _ l e (λ class is_class e.
+    then_some (find_word request_word requests word.0) _ l e (λ class is_class e.
     then_some (ended word.1) _ l e (λ end ends e.
     let n = name_found ws name named in
     subst (Spells (codes "request" ∷ ws)) (same_Some (Message name.0 (Request class)) l e)
-    (cc (n.0, first_rest_is name.1 word.0 word.1 (sym first), request_found word.0 class is_class, ended_found word.1 end ends), n.1)))))
+    (cc (n.0, first_rest_is name.1 word.0 word.1 (sym first), word_found request_word requests word.0 class is_class, ended_found word.1 end ends), n.1)))))
 
 -- the spelling of a request line is read as that line
 request_line_again : (name : List ℕ) (class : ReqClass) → IsTrue (is_name name)
     → request_line (name ∷ request_word class ∷ []) ≡ Some (Message name (Request class))
 unfolding request_line
-request_line_again name class h = rw (name_again name (request_word class ∷ []) h, request_again class) refl
+request_line_again name class h = rw (name_again name (request_word class ∷ []) h, word_again request_word requests refl class (requests_listed class)) refl
 
 -- a forward line that is read is spelled by its words
 forward_line_found : (ws : List (List ℕ)) (l : Line) → forward_line ws ≡ Some l → Spells (codes "forward" ∷ ws) l
@@ -322,17 +202,17 @@ unfolding forward_line
 forward_line_found ws l e =
     then_some (name_at ws) _ l e (λ name named e.
     then_some (first_rest name.1) _ l e (λ word first e.
-    then_some (forward_of word.0) _ l e (λ class is_class e.
+    then_some (find_word forward_word forwards word.0) _ l e (λ class is_class e.
     then_some (ended word.1) _ l e (λ end ends e.
     let n = name_found ws name named in
     subst (Spells (codes "forward" ∷ ws)) (same_Some (Message name.0 (Forward class)) l e)
-    (cc (n.0, first_rest_is name.1 word.0 word.1 (sym first), forward_found word.0 class is_class, ended_found word.1 end ends), n.1)))))
+    (cc (n.0, first_rest_is name.1 word.0 word.1 (sym first), word_found forward_word forwards word.0 class is_class, ended_found word.1 end ends), n.1)))))
 
 -- the spelling of a forward line is read as that line
 forward_line_again : (name : List ℕ) (class : FwdClass) → IsTrue (is_name name)
     → forward_line (name ∷ forward_word class ∷ []) ≡ Some (Message name (Forward class))
 unfolding forward_line
-forward_line_again name class h = rw (name_again name (forward_word class ∷ []) h, forward_again class) refl
+forward_line_again name class h = rw (name_again name (forward_word class ∷ []) h, word_again forward_word forwards refl class (forwards_listed class)) refl
 
 -- a reply line that is read is spelled by its words
 reply_line_found : (ws : List (List ℕ)) (l : Line) → reply_line ws ≡ Some l → Spells (codes "reply" ∷ ws) l
@@ -360,7 +240,7 @@ pairs_found : (ws : List (List ℕ)) → are_pairs ws ≡ true → (ws ≡ words
 pairs_found [] h = (refl, refl)
 pairs_found (w ∷ []) h = absurd cc
 pairs_found (reply ∷ fin ∷ more) h =
-    let b = both (is_name reply && is_state_name fin) (are_pairs more) h in
+    let b = and_parts (is_name reply && is_state_name fin) (are_pairs more) h in
     let p = pairs_found more b.1 in
     (ap (λ (ws : List (List ℕ)). reply ∷ fin ∷ ws) p.0, and_from (is_name reply && is_state_name fin) _ b.0 p.1)
 
@@ -383,7 +263,7 @@ asking_found (w ∷ next ∷ []) s e =
     subst (IsShape Load (w ∷ next ∷ [])) t.1 (ap (λ (v : List ℕ). v ∷ next ∷ []) h, t.0)) (nothing_found s) e
 asking_found (w ∷ reply ∷ fin ∷ more) s e =
     let t = cond_some (is_name w && are_pairs (reply ∷ fin ∷ more)) (Ask w ((reply, fin) ∷ pairs_in more)) s e in
-    let b = both (is_name w) (are_pairs (reply ∷ fin ∷ more)) t.0 in
+    let b = and_parts (is_name w) (are_pairs (reply ∷ fin ∷ more)) t.0 in
     let p = pairs_found (reply ∷ fin ∷ more) b.1 in
     subst (IsShape Load (w ∷ reply ∷ fin ∷ more)) t.1 (ap (λ (ws : List (List ℕ)). w ∷ ws) p.0, (b.0, p.1, λ h. cc))
 
@@ -439,19 +319,19 @@ unfolding core_line
 core_found ws l e =
     then_some (state_at ws) _ l e (λ state named e.
     then_some (first_rest state.1) _ l e (λ word first e.
-    then_some (event_of word.0) _ l e (λ event is_event e.
+    then_some (find_word event_word events word.0) _ l e (λ event is_event e.
     then_some (shape_of event word.1) _ l e (λ shape shaped e.
     let n = state_found ws state named in
     let p = shape_found event word.1 shape shaped in
     subst (Spells (codes "core" ∷ ws)) (same_Some (Core state.0 event shape) l e)
-    (cc (n.0, first_rest_is state.1 word.0 word.1 (sym first), event_found word.0 event is_event, p.0), (n.1, p.1))))))
+    (cc (n.0, first_rest_is state.1 word.0 word.1 (sym first), word_found event_word events word.0 event is_event, p.0), (n.1, p.1))))))
 
 -- the spelling of a core line is read as that line
 core_again : (state : List ℕ) (event : Event) (shape : CoreShape) → IsTrue (is_state_name state) → IsShapeOf event shape
     → core_line (state ∷ event_word event ∷ shape_words shape) ≡ Some (Core state event shape)
 unfolding core_line
 core_again state event shape h g =
-    rw (state_again state (event_word event ∷ shape_words shape) h, event_again event, shape_again event shape g) refl
+    rw (state_again state (event_word event ∷ shape_words shape) h, word_again event_word events refl event (events_listed event), shape_again event shape g) refl
 
 -- what is read behind the forward of a take line is spelled by its words
 take_end_found : (state forward : List ℕ) (ws : List (List ℕ)) (l : Line) → IsTrue (is_state_name state) → IsTrue (is_name forward)
@@ -462,7 +342,7 @@ take_end_found state forward (next ∷ []) l h g e =
     subst (Spells (codes "take" ∷ state ∷ forward ∷ next ∷ [])) t.1 (refl, (h, g, tt, t.0))
 take_end_found state forward (reply ∷ next ∷ []) l h g e =
     let t = cond_some (is_name reply && is_state_name next) (Take state forward (Some reply) next) l e in
-    let b = both (is_name reply) (is_state_name next) t.0 in
+    let b = and_parts (is_name reply) (is_state_name next) t.0 in
     subst (Spells (codes "take" ∷ state ∷ forward ∷ reply ∷ next ∷ [])) t.1 (refl, (h, g, b.0, b.1))
 take_end_found state forward (reply ∷ next ∷ more ∷ ws) l h g e = absurd cc
 
@@ -517,24 +397,24 @@ asking_row_found : (request : List ℕ) (ws : List (List ℕ)) (x : RowShape × 
 unfolding asking_row
 asking_row_found request ws x other e =
     then_some (first_rest ws) _ x e (λ word first e.
-    then_some (who_of word.0) _ x e (λ sender is_sender e.
+    then_some (find_word who_word senders word.0) _ x e (λ sender is_sender e.
     then_some (name_at word.1) _ x e (λ action named e.
     let n = name_found word.1 action named in
     let t = cond_some (is_name request) (row.Ask request sender action.0, action.1) x e in
     subst (IsRow (request ∷ ws)) t.1
-    (cc (n.0, first_rest_is ws word.0 word.1 (sym first), who_found word.0 sender is_sender), (t.0, other, n.1)))))
+    (cc (n.0, first_rest_is ws word.0 word.1 (sym first), word_found who_word senders word.0 sender is_sender), (t.0, other, n.1)))))
 
 -- a row that is read behind an evict is spelled by its words
 evicting_row_found : (ws : List (List ℕ)) (x : RowShape × List (List ℕ)) → evicting_row ws ≡ Some x → IsRow (codes "evict" ∷ ws) x
 unfolding evicting_row
 evicting_row_found ws x e =
     then_some (first_rest ws) _ x e (λ a first e.
-    then_some (holder_of a.0) _ x e (λ sender is_sender e.
+    then_some (find_word who_word holders a.0) _ x e (λ sender is_sender e.
     then_some (first_rest a.1) _ x e (λ b second e.
-    then_some (left_of b.0) _ x e (λ others is_others e.
+    then_some (find_word left_word lefts b.0) _ x e (λ others is_others e.
     let s = holder_found a.0 sender is_sender in
     subst (IsRow (codes "evict" ∷ ws)) (same_Some (row.Evict sender others, b.1) x e)
-    (cc (first_rest_is ws a.0 a.1 (sym first), s.0, first_rest_is a.1 b.0 b.1 (sym second), left_found b.0 others is_others), s.1 others)))))
+    (cc (first_rest_is ws a.0 a.1 (sym first), s.0, first_rest_is a.1 b.0 b.1 (sym second), word_found left_word lefts b.0 others is_others), s.1 others)))))
 
 -- a row that is read behind its state is spelled by its words
 row_shape_found : (w : List ℕ) (ws : List (List ℕ)) (x : RowShape × List (List ℕ)) → row_shape w ws ≡ Some x → IsRow (w ∷ ws) x
@@ -579,7 +459,7 @@ row_again dir (row.Ask request sender action) next h g k =
     rw (
       state_again dir (row_words (row.Ask request sender action) (next ∷ [])) h,
       other_word request (codes "evict") g.1,
-      who_again sender,
+      word_again who_word senders refl sender (senders_listed sender),
       name_again action (next ∷ []) g.2,
       g.0,
       state_again next [] k,
@@ -588,7 +468,7 @@ row_again dir (row.Evict sender others) next h g k =
     rw (
       state_again dir (row_words (row.Evict sender others) (next ∷ [])) h,
       holder_again sender others g,
-      left_again others,
+      word_again left_word lefts refl others (lefts_listed others),
       state_again next [] k,
     ) refl
 

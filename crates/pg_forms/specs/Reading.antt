@@ -2,22 +2,10 @@ use Rattle.std.specs.Prelude.{ℕ, Bool, true, false, ◌&&◌, List, [], ◌∷
 use Rattle.std.specs.Str.{bytes_eq}
 use Rattle.std.specs.List.{list_all}
 use Rattle.pg_perm.specs.Names.{is_name, is_state_name}
-use Rattle.pg_perm.specs.declared.kinds.Role.{Role}
-use Rattle.pg_perm.specs.declared.kinds.Role.TheVariants.{Out, Shared, Owner}
-use Rattle.pg_perm.specs.declared.kinds.Perm.{Perm}
-use Rattle.pg_perm.specs.declared.kinds.Perm.TheVariants as perm
-use Rattle.pg_perm.specs.declared.kinds.ReqClass.{ReqClass}
-use Rattle.pg_perm.specs.declared.kinds.ReqClass.TheVariants as asks
-use Rattle.pg_perm.specs.declared.kinds.DirKind.{DirKind}
-use Rattle.pg_perm.specs.declared.kinds.DirKind.TheVariants as knows
-use Rattle.pg_perm.specs.declared.kinds.FwdClass.{FwdClass}
-use Rattle.pg_perm.specs.declared.kinds.FwdClass.TheVariants as asked
-use Rattle.pg_perm.specs.declared.kinds.Who.{Who}
-use Rattle.pg_perm.specs.declared.kinds.Who.TheVariants as who
-use Rattle.pg_perm.specs.declared.kinds.Left.{Left}
-use Rattle.pg_perm.specs.declared.kinds.Left.TheVariants as left
+use Rattle.pg_perm.specs.Vocabularies.{find_word}
+use Rattle.pg_perm.specs.Words.{role_word, roles, perm_word, perms, dir_word, dir_kinds, request_word, requests, forward_word, forwards, event_word, events, who_word, senders, holders, left_word, lefts}
 use Rattle.pg_perm.specs.declared.kinds.Event.{Event}
-use Rattle.pg_perm.specs.declared.kinds.Event.TheVariants.{Load, Store, Evict}
+use Rattle.pg_perm.specs.declared.kinds.Event.TheVariants.{Evict}
 use Rattle.pg_perm.specs.declared.draft.MsgClass.TheVariants.{Request, Forward, Reply}
 use Rattle.pg_forms.specs.declared.line.Line.{Line}
 use Rattle.pg_forms.specs.declared.line.Line.TheVariants.{Protocol, Cache, Dir, Message, Core, Take, Row, End}
@@ -33,62 +21,6 @@ infixl 10 ◌>>=◌
 abbrev pub ◌>>=◌ : {A B : Type 0} → Option A → (A → Option B) → Option B
 None >>= f = None
 (Some x) >>= f = f x
-
-abbrev pub role_of : List ℕ → Option Role
-role_of w = if bytes_eq w (codes "out") then Some Out
-    else if bytes_eq w (codes "shared") then Some Shared
-    else if bytes_eq w (codes "owner") then Some Owner
-    else None
-
-abbrev pub perm_of : List ℕ → Option Perm
-perm_of w = if bytes_eq w (codes "none") then Some perm.None
-    else if bytes_eq w (codes "read") then Some perm.Read
-    else if bytes_eq w (codes "write") then Some perm.Write
-    else None
-
-abbrev pub request_of : List ℕ → Option ReqClass
-request_of w = if bytes_eq w (codes "read") then Some asks.Read
-    else if bytes_eq w (codes "write") then Some asks.Write
-    else if bytes_eq w (codes "clean") then Some asks.Clean
-    else if bytes_eq w (codes "dirty") then Some asks.Dirty
-    else None
-
-abbrev pub dir_kind_of : List ℕ → Option DirKind
-dir_kind_of w = if bytes_eq w (codes "idle") then Some knows.Idle
-    else if bytes_eq w (codes "shared") then Some knows.Shared
-    else if bytes_eq w (codes "owned") then Some knows.Owned
-    else if bytes_eq w (codes "mixed") then Some knows.Mixed
-    else None
-
-abbrev pub forward_of : List ℕ → Option FwdClass
-forward_of w = if bytes_eq w (codes "inv") then Some asked.Inv
-    else if bytes_eq w (codes "share") then Some asked.Share
-    else if bytes_eq w (codes "keep") then Some asked.Keep
-    else if bytes_eq w (codes "drop") then Some asked.Drop
-    else None
-
-abbrev pub who_of : List ℕ → Option Who
-who_of w = if bytes_eq w (codes "other") then Some who.Other
-    else if bytes_eq w (codes "sharer") then Some who.Sharer
-    else if bytes_eq w (codes "owner") then Some who.Owner
-    else None
-
--- who may evict
-abbrev pub holder_of : List ℕ → Option Who
-holder_of w = if bytes_eq w (codes "sharer") then Some who.Sharer
-    else if bytes_eq w (codes "owner") then Some who.Owner
-    else None
-
-abbrev pub left_of : List ℕ → Option Left
-left_of w = if bytes_eq w (codes "last") then Some left.Last
-    else if bytes_eq w (codes "more") then Some left.More
-    else None
-
-abbrev pub event_of : List ℕ → Option Event
-event_of w = if bytes_eq w (codes "load") then Some Load
-    else if bytes_eq w (codes "store") then Some Store
-    else if bytes_eq w (codes "evict") then Some Evict
-    else None
 
 -- the first word where it is a name, and the words behind it
 unfoldable pub name_at : List (List ℕ) → Option (List ℕ × List (List ℕ))
@@ -123,9 +55,9 @@ unfoldable pub cache_line : List (List ℕ) → Option Line
 cache_line ws = do
   name ← state_at ws
   word ← first_rest name.1
-  role ← role_of word.0
+  role ← find_word role_word roles word.0
   word ← first_rest word.1
-  perm ← perm_of word.0
+  perm ← find_word perm_word perms word.0
   clean ← clean_of word.1
   Some (Cache name.0 role perm clean)
 
@@ -133,14 +65,14 @@ unfoldable pub dir_line : List (List ℕ) → Option Line
 dir_line ws = do
   name ← state_at ws
   word ← first_rest name.1
-  kind ← dir_kind_of word.0
+  kind ← find_word dir_word dir_kinds word.0
   if list_all is_state_name word.1 then Some (Dir name.0 kind word.1) else None
 
 unfoldable pub forward_line : List (List ℕ) → Option Line
 forward_line ws = do
   name ← name_at ws
   word ← first_rest name.1
-  class ← forward_of word.0
+  class ← find_word forward_word forwards word.0
   end ← ended word.1
   Some (Message name.0 (Forward class))
 
@@ -148,7 +80,7 @@ unfoldable pub request_line : List (List ℕ) → Option Line
 request_line ws = do
   name ← name_at ws
   word ← first_rest name.1
-  class ← request_of word.0
+  class ← find_word request_word requests word.0
   end ← ended word.1
   Some (Message name.0 (Request class))
 
@@ -190,7 +122,7 @@ unfoldable pub core_line : List (List ℕ) → Option Line
 core_line ws = do
   state ← state_at ws
   word ← first_rest state.1
-  event ← event_of word.0
+  event ← find_word event_word events word.0
   shape ← shape_of event word.1
   Some (Core state.0 event shape)
 
@@ -219,7 +151,7 @@ take_line ws = do
 unfoldable pub asking_row : List ℕ → List (List ℕ) → Option (RowShape × List (List ℕ))
 asking_row request ws = do
   word ← first_rest ws
-  sender ← who_of word.0
+  sender ← find_word who_word senders word.0
   action ← name_at word.1
   if is_name request then Some (row.Ask request sender action.0, action.1) else None
 
@@ -227,9 +159,9 @@ asking_row request ws = do
 unfoldable pub evicting_row : List (List ℕ) → Option (RowShape × List (List ℕ))
 evicting_row ws = do
   word ← first_rest ws
-  sender ← holder_of word.0
+  sender ← find_word who_word holders word.0
   word ← first_rest word.1
-  others ← left_of word.0
+  others ← find_word left_word lefts word.0
   Some (row.Evict sender others, word.1)
 
 -- the third word decides

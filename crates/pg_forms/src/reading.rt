@@ -9,139 +9,7 @@ use crate::line::{CoreShape, Line, RowShape};
 use crate::pairs::NamePairs;
 use crate::states::StateNames;
 use pg_lines::Words;
-use pg_perm::{
-    DirKind, Event, FwdClass, Left, MsgClass, Perm, ReqClass, Role, Who, Word, is_name,
-    is_state_name,
-};
-
-fn role_of(word: &[u8]) -> Option<Role>
-    ensures { result ≡ forms.role_of word.now }
-{
-    if word == b"out".as_slice() {
-        Some(Role::Out)
-    } else if word == b"shared".as_slice() {
-        Some(Role::Shared)
-    } else if word == b"owner".as_slice() {
-        Some(Role::Owner)
-    } else {
-        None
-    }
-}
-
-fn perm_of(word: &[u8]) -> Option<Perm>
-    ensures { result ≡ forms.perm_of word.now }
-{
-    if word == b"none".as_slice() {
-        Some(Perm::None)
-    } else if word == b"read".as_slice() {
-        Some(Perm::Read)
-    } else if word == b"write".as_slice() {
-        Some(Perm::Write)
-    } else {
-        None
-    }
-}
-
-fn request_of(word: &[u8]) -> Option<ReqClass>
-    ensures { result ≡ forms.request_of word.now }
-{
-    if word == b"read".as_slice() {
-        Some(ReqClass::Read)
-    } else if word == b"write".as_slice() {
-        Some(ReqClass::Write)
-    } else if word == b"clean".as_slice() {
-        Some(ReqClass::Clean)
-    } else if word == b"dirty".as_slice() {
-        Some(ReqClass::Dirty)
-    } else {
-        None
-    }
-}
-
-fn dir_kind_of(word: &[u8]) -> Option<DirKind>
-    ensures { result ≡ forms.dir_kind_of word.now }
-{
-    if word == b"idle".as_slice() {
-        Some(DirKind::Idle)
-    } else if word == b"shared".as_slice() {
-        Some(DirKind::Shared)
-    } else if word == b"owned".as_slice() {
-        Some(DirKind::Owned)
-    } else if word == b"mixed".as_slice() {
-        Some(DirKind::Mixed)
-    } else {
-        None
-    }
-}
-
-fn forward_of(word: &[u8]) -> Option<FwdClass>
-    ensures { result ≡ forms.forward_of word.now }
-{
-    if word == b"inv".as_slice() {
-        Some(FwdClass::Inv)
-    } else if word == b"share".as_slice() {
-        Some(FwdClass::Share)
-    } else if word == b"keep".as_slice() {
-        Some(FwdClass::Keep)
-    } else if word == b"drop".as_slice() {
-        Some(FwdClass::Drop)
-    } else {
-        None
-    }
-}
-
-fn who_of(word: &[u8]) -> Option<Who>
-    ensures { result ≡ forms.who_of word.now }
-{
-    if word == b"other".as_slice() {
-        Some(Who::Other)
-    } else if word == b"sharer".as_slice() {
-        Some(Who::Sharer)
-    } else if word == b"owner".as_slice() {
-        Some(Who::Owner)
-    } else {
-        None
-    }
-}
-
-/// Who may evict.
-fn holder_of(word: &[u8]) -> Option<Who>
-    ensures { result ≡ forms.holder_of word.now }
-{
-    if word == b"sharer".as_slice() {
-        Some(Who::Sharer)
-    } else if word == b"owner".as_slice() {
-        Some(Who::Owner)
-    } else {
-        None
-    }
-}
-
-fn left_of(word: &[u8]) -> Option<Left>
-    ensures { result ≡ forms.left_of word.now }
-{
-    if word == b"last".as_slice() {
-        Some(Left::Last)
-    } else if word == b"more".as_slice() {
-        Some(Left::More)
-    } else {
-        None
-    }
-}
-
-fn event_of(word: &[u8]) -> Option<Event>
-    ensures { result ≡ forms.event_of word.now }
-{
-    if word == b"load".as_slice() {
-        Some(Event::Load)
-    } else if word == b"store".as_slice() {
-        Some(Event::Store)
-    } else if word == b"evict".as_slice() {
-        Some(Event::Evict)
-    } else {
-        None
-    }
-}
+use pg_perm::{Event, MsgClass, Who, Word, find_among, find_word, is_name, is_state_name};
 
 #[tactic(auto, unfolding(crate::specs::Reading::name_at))]
 fn name_at<'a>(words: &Words<'a>) -> Option<(Word, Words<'a>)>
@@ -205,9 +73,9 @@ fn cache_line<'a>(words: &Words<'a>) -> Option<Line<'a>>
 {
     let (name, rest) = state_at(words)?;
     let (word, rest) = rest.first()?;
-    let role = role_of(word)?;
+    let role = find_word(word)?;
     let (word, rest) = rest.first()?;
-    let perm = perm_of(word)?;
+    let perm = find_word(word)?;
     let clean = clean_of(&rest)?;
     Some(Line::Cache {
         name,
@@ -237,7 +105,7 @@ fn dir_line<'a>(words: &Words<'a>) -> Option<Line<'a>>
 {
     let (name, rest) = state_at(words)?;
     let (word, rest) = rest.first()?;
-    let kind = dir_kind_of(word)?;
+    let kind = find_word(word)?;
     if are_states(&rest) {
         Some(Line::Dir {
             name,
@@ -255,7 +123,7 @@ fn forward_line<'a>(words: &Words<'a>) -> Option<Line<'a>>
 {
     let (name, rest) = name_at(words)?;
     let (word, rest) = rest.first()?;
-    let class = forward_of(word)?;
+    let class = find_word(word)?;
     ended(&rest)?;
     Some(Line::Message {
         name,
@@ -269,7 +137,7 @@ fn request_line<'a>(words: &Words<'a>) -> Option<Line<'a>>
 {
     let (name, rest) = name_at(words)?;
     let (word, rest) = rest.first()?;
-    let class = request_of(word)?;
+    let class = find_word(word)?;
     ended(&rest)?;
     Some(Line::Message {
         name,
@@ -384,7 +252,7 @@ fn core_line<'a>(words: &Words<'a>) -> Option<Line<'a>>
 {
     let (state, rest) = state_at(words)?;
     let (word, rest) = rest.first()?;
-    let event = event_of(word)?;
+    let event = find_word(word)?;
     let shape = shape_of(event, &rest)?;
     Some(Line::Core {
         state,
@@ -451,7 +319,7 @@ fn asking_row<'a>(request: &[u8], words: &Words<'a>) -> Option<(RowShape, Words<
     ensures { result ≡ forms.asking_row request.now words.now }
 {
     let (word, rest) = words.first()?;
-    let who = who_of(word)?;
+    let who = find_word(word)?;
     let (action, rest) = name_at(&rest)?;
     if is_name(request) {
         Some((
@@ -472,9 +340,9 @@ fn evicting_row<'a>(words: &Words<'a>) -> Option<(RowShape, Words<'a>)>
     ensures { result ≡ forms.evicting_row words.now }
 {
     let (word, rest) = words.first()?;
-    let who = holder_of(word)?;
+    let who = find_among(&[Who::Sharer, Who::Owner], word)?;
     let (word, rest) = rest.first()?;
-    let left = left_of(word)?;
+    let left = find_word(word)?;
     Some((RowShape::Evict { who, left }, rest))
 }
 

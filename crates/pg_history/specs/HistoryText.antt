@@ -41,6 +41,10 @@ abbrev pub step_lines : ℕ → List Step → List ℕ
 step_lines k [] = []
 step_lines k (x ∷ xs) = step_line (with_step k x) x ++ step_lines (with_step k x) xs
 
+-- the line that names the block
+abbrev pub block_line : ℕ → List ℕ
+block_line block = codes "block " ++ decimal block ++ codes "\n"
+
 -- the line that names the block, and the lines of its steps
 abbrev pub block_text : ℕ → List Step → List ℕ
-block_text block steps = codes "block " ++ decimal block ++ codes "\n" ++ step_lines 0 steps
+block_text block steps = block_line block ++ step_lines 0 steps

@@ -2,8 +2,9 @@
 #![tactic(auto)]
 
 mod history;
+mod line;
 
-pub use history::history_text;
+pub use history::{history_text, write_history};
 
 #[cfg(test)]
 mod tests;

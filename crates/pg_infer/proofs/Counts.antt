@@ -3,7 +3,7 @@ use Rattle.std.proofs.Common.{◌≡◌, ℕ, ◌*◌, ◌≤◌, Bool, true, fa
 use Rattle.std.specs.Prelude.{map, filter, not, is_some, if◌then◌else◌}
 use Rattle.std.specs.List.{flat_map}
 use Rattle.std.specs.Option.{option_map_or}
-use Rattle.std.proofs.lemmas.Bool.{leb-true}
+use Rattle.std.proofs.lemmas.Bool.{leb-true, and_parts}
 use Rattle.std.proofs.lemmas.List.{length-append, length-map}
 use Rattle.std.proofs.lemmas.List.FromFn.{length-range_with_len}
 use Rattle.std.proofs.lemmas.List.Sums.{length-filter, count_by-le-length}
@@ -13,7 +13,6 @@ use Rattle.pg_perm.specs.declared.kinds.Mode.{Mode}
 use Rattle.pg_perm.specs.declared.kinds.Mode.TheVariants as mode
 use Rattle.pg_perm.specs.declared.draft.Draft.{Draft}
 use Rattle.pg_perm.specs.Drafts.{IsWellFormed}
-use Rattle.pg_perm.proofs.Booleans.{both}
 use Rattle.pg_terms.specs.Terms.{is, is_owner, is_read_owner, cache_is, out, shared}
 use Rattle.pg_table.specs.declared.cache.Desc.{Desc}
 use Rattle.pg_table.specs.declared.cache.Desc.TheVariants.{Stable, Ask, Leave}
@@ -24,7 +23,7 @@ use Rattle.pg_table.specs.Descriptors.{out_state, is_tag_of, tags, states, start
 
 -- of six tests that all pass the first does
 first : (a b c d e f : Bool) → (a && b && c && d && e && f) ≡ true → a ≡ true
-first a b c d e f h = (both a b (both (a && b) c (both (a && b && c) d (both (a && b && c && d) e (both (a && b && c && d && e) f h).0).0).0).0).0
+first a b c d e f h = (and_parts a b (and_parts (a && b) c (and_parts (a && b && c) d (and_parts (a && b && c && d) e (and_parts (a && b && c && d && e) f h).0).0).0).0).0
 
 caches_few : (d : Draft) → IsWellFormed d → length d.caches ≤ 16
 caches_few d well = leb-true (length d.caches) 16 (first _ _ _ _ _ _ well.limits)

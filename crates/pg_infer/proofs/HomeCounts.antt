@@ -1,24 +1,27 @@
 -- How many states the directory controller has.
-use Rattle.std.proofs.Common.{◌≡◌, ◌≤◌, Bool, true, ◌&&◌, List, length, sym, subst, arith}
+use Rattle.std.proofs.Common.{◌≡◌, ℕ, ◌≤◌, Bool, true, ◌&&◌, List, length, sym, subst, arith}
 use Rattle.std.specs.Prelude.{map, filter}
-use Rattle.std.proofs.lemmas.Bool.{leb-true}
+use Rattle.std.specs.List.{range_with_len}
+use Rattle.std.proofs.lemmas.Bool.{leb-true, and_parts}
 use Rattle.std.proofs.lemmas.List.{length-append, length-map}
 use Rattle.std.proofs.lemmas.List.FromFn.{length-range_with_len}
 use Rattle.std.proofs.lemmas.List.Sums.{length-filter, count_by-le-length}
 use Rattle.pg_perm.specs.declared.draft.Draft.{Draft}
 use Rattle.pg_perm.specs.Drafts.{IsWellFormed}
-use Rattle.pg_perm.proofs.Booleans.{both}
 use Rattle.pg_table.specs.declared.home.DirDesc.{DirDesc}
 use Rattle.pg_table.specs.declared.home.DirDesc.TheVariants.{State, Busy}
 use Rattle.pg_table.specs.Home.{is_after_share, home_descs}
-use Rattle.pg_infer.proofs.HomeNexts.{dir_numbers}
 
 -- of six tests that all pass the second does
 second : (a b c d e f : Bool) → (a && b && c && d && e && f) ≡ true → b ≡ true
-second a b c d e f h = (both a b (both (a && b) c (both (a && b && c) d (both (a && b && c && d) e (both (a && b && c && d && e) f h).0).0).0).0).1
+second a b c d e f h = (and_parts a b (and_parts (a && b) c (and_parts (a && b && c) d (and_parts (a && b && c && d) e (and_parts (a && b && c && d && e) f h).0).0).0).0).1
 
 pub dirs_few : (d : Draft) → IsWellFormed d → length d.dirs ≤ 16
 dirs_few d well = leb-true (length d.dirs) 16 (second _ _ _ _ _ _ well.limits)
+
+-- the numbers of the directory states
+abbrev dir_numbers : Draft → List ℕ
+dir_numbers d = range_with_len 0 (length d.dirs)
 
 -- there are at most two states for each that is declared
 descs_few : (d : Draft) → IsWellFormed d → length (home_descs d) ≤ 32

@@ -1,9 +1,8 @@
 pub mod Ranges
 pub mod Race
 pub mod Stores
-pub mod Rows
+pub mod Steps
+pub mod Nexts
 pub mod Counts
 pub mod Messages
-pub mod HomeNexts
-pub mod HomeSteps
 pub mod HomeCounts

@@ -4,6 +4,7 @@ use Rattle.std.specs.Prelude.{◌&&◌, slice_get, if◌then◌else◌}
 use Rattle.std.specs.List.{list_any}
 use Rattle.std.specs.Option.{option_map, option_map_or, option_and_then}
 use Rattle.std.proofs.lemmas.Option.{same_Some}
+use Rattle.std.proofs.lemmas.Bool.{and_parts}
 use Rattle.pg_perm.specs.declared.kinds.Role.{Role}
 use Rattle.pg_perm.specs.declared.kinds.Role.TheVariants as role
 use Rattle.pg_perm.specs.declared.kinds.Event.{Event}
@@ -20,7 +21,6 @@ use Rattle.pg_perm.specs.declared.draft.MsgLine.{MsgLine}
 use Rattle.pg_perm.specs.declared.draft.MsgClass.{MsgClass}
 use Rattle.pg_perm.specs.declared.draft.MsgClass.TheVariants as message
 use Rattle.pg_perm.specs.Drafts.{IsWellFormed}
-use Rattle.pg_perm.proofs.Booleans.{both}
 use Rattle.pg_terms.specs.Terms.{is, is_out, is_shared, is_owner, is_read_perm, is_read_owner, cache_is, out, shared, same_forward, is_forward_of, has_class, take_row}
 use Rattle.pg_terms.specs.Due.{is_due}
 use Rattle.pg_shape.specs.Shaped.{IsShaped}
@@ -118,7 +118,7 @@ role_of_owner d s e = let (c, get, t) = map_or_get (λ c. is_owner c.role) (slic
 read_owner_owns : (d : Draft) (s : ℕ) → cache_is is_read_owner d s ≡ true → cache_is (λ c. is_owner c.role) d s ≡ true
 read_owner_owns d s e =
     let (c, get, t) = map_or_get is_read_owner (slice_get d.caches s) e in
-    ap (λ (o : Option CacheLine). option_map_or (λ c. is_owner c.role) o false) get ∙ (both (is_owner c.role) (is_read_perm c.perm) t).0
+    ap (λ (o : Option CacheLine). option_map_or (λ c. is_owner c.role) o false) get ∙ (and_parts (is_owner c.role) (is_read_perm c.perm) t).0
 
 -- each state in which a store asks has a role
 start_has_role : (d : Draft) (s : ℕ) → IsStart d s → (r : Role) × (role_of d s ≡ Some r)

@@ -1,4 +1,4 @@
 pub mod Tags
 pub mod Moves
 pub mod Race
-pub mod HomeStates
+pub mod Steps

@@ -26,7 +26,7 @@ fn pairs_in(form: &CoreForm) -> &[Pair]
 pub fn pairs_of(protocol: &Protocol, start: u8, event: Event) -> &[Pair]
     ensures { map (λ p. p.fin) result.now ≡ of.finals protocol.now start event }
 {
-    match terms::core_row(protocol.draft(), usize::from(start), event) {
+    match terms::core_row(protocol.draft(), start, event) {
         Some(line) => pairs_in(&line.form),
         None => &[],
     }
@@ -38,36 +38,20 @@ pub fn out_state(protocol: &Protocol) -> u8
     protocol.out()
 }
 
-/// The state that the keep forward leads this state to.
-pub fn keep_of(protocol: &Protocol, state: u8) -> Option<u8>
-    ensures { result ≡ term.keep_of protocol.now state }
-{
-    let forward = terms::forward_of(protocol.draft(), FwdClass::Keep)?;
-    let line = terms::take_row(protocol.draft(), usize::from(state), forward)?;
-    Some(line.next)
-}
-
 /// A cache in this state may get the share forward.
 fn may_share(protocol: &Protocol, state: u8) -> bool
     ensures { result ≡ of.may_share protocol.now state }
 {
-    match terms::forward_of(protocol.draft(), FwdClass::Share) {
-        Some(forward) => terms::is_due(protocol.draft(), usize::from(state), forward),
+    match protocol.forward_of(FwdClass::Share) {
+        Some(forward) => protocol.due(state, forward),
         None => false,
     }
-}
-
-/// A cache in this state may get the keep forward.
-pub fn may_keep(protocol: &Protocol, state: u8) -> bool
-    ensures { result ≡ says.may_keep protocol.now state }
-{
-    terms::may_keep(protocol.draft(), usize::from(state))
 }
 
 fn may_share_once_kept(protocol: &Protocol, state: u8) -> bool
     ensures { result ≡ option_map_or (of.may_share protocol.now) (term.keep_of protocol.now state) false }
 {
-    match keep_of(protocol, state) {
+    match terms::keep_of(protocol.draft(), state) {
         Some(kept) => may_share(protocol, kept),
         None => false,
     }
@@ -76,8 +60,7 @@ fn may_share_once_kept(protocol: &Protocol, state: u8) -> bool
 fn may_give(protocol: &Protocol, state: u8) -> bool
     ensures { result ≡ of.may_give protocol.now state }
 {
-    may_share(protocol, state)
-        || (may_keep(protocol, state) && may_share_once_kept(protocol, state))
+    may_share(protocol, state) || (protocol.may_keep(state) && may_share_once_kept(protocol, state))
 }
 
 /// Where an operation ends with this final state, once the forwards that the tag tells of have come.
@@ -86,7 +69,7 @@ pub fn after(protocol: &Protocol, fin: u8, tag: Tag) -> Option<u8>
 {
     match tag {
         Tag::Plain => Some(fin),
-        Tag::Kept if may_keep(protocol, fin) => keep_of(protocol, fin),
+        Tag::Kept if protocol.may_keep(fin) => terms::keep_of(protocol.draft(), fin),
         Tag::Kept => None,
         Tag::Gave if may_give(protocol, fin) => protocol.shared(),
         Tag::Gave => None,
@@ -127,7 +110,7 @@ pub fn has_tag(protocol: &Protocol, mode: Mode, start: u8, event: Event, tag: Ta
 pub fn store_phase(protocol: &Protocol, start: u8) -> Phase
     ensures { result ≡ of.store_phase protocol.now start }
 {
-    if terms::is_owner_state(protocol.draft(), usize::from(start)) {
+    if terms::is_owner_state(protocol.draft(), start) {
         Phase::Ac
     } else {
         Phase::Ad

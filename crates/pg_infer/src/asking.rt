@@ -16,13 +16,6 @@ use pg_table::{Act, Desc, Input, Phase, Tag};
 use pg_terms as terms;
 use std::alloc::{AllocError, Global};
 
-/// The state in which an operation ends that began in this state and gets this reply.
-fn final_state(protocol: &Protocol, start: u8, event: Event, name: ReplyName) -> Option<u8>
-    ensures { result ≡ says.final protocol.now start event name }
-{
-    terms::final_state(protocol.draft(), usize::from(start), event, name)
-}
-
 /// The acts with which an operation is done, and the later forwards that were put off are answered.
 fn done(alloc: Global, tag: Tag, acts: &[Act]) -> Result<Vec<Act>, AllocError>
     ensures { IfOk result (λ all. all.items ≡ acts.now ++ Act.Done ∷ [] ++ may.serves tag) }
@@ -89,7 +82,12 @@ pub fn when_loading(
 {
     match input {
         Input::DataAll(reply) => {
-            let fin = final_state(protocol, start, Event::Load, ReplyName::Reply(reply));
+            let fin = terms::final_state(
+                protocol.draft(),
+                start,
+                Event::Load,
+                ReplyName::Reply(reply),
+            );
             ends(alloc, protocol, tag, &[Act::Fill], fin)
         }
         Input::Forward(forward) => later(
@@ -110,7 +108,12 @@ pub fn when_loading(
 fn takes_part(alloc: Global, protocol: &Protocol, start: u8, tag: Tag, reply: u8) -> Chosen
     ensures { IfOk result (λ c. (mode : Mode) → c ≡ chosen mode (may.shares protocol.now (may.given (says.final protocol.now start Event.Store (ReplyName.Reply reply)) (λ x. may.only (Act.Fill ∷ Act.Need ∷ []) (Desc.Ask Event.Store start Phase.A tag))))) }
 {
-    match final_state(protocol, start, Event::Store, ReplyName::Reply(reply)) {
+    match terms::final_state(
+        protocol.draft(),
+        start,
+        Event::Store,
+        ReplyName::Reply(reply),
+    ) {
         Some(_) => waits(
             alloc,
             protocol,
@@ -167,7 +170,12 @@ pub fn when_storing(
 {
     match input {
         Input::DataAll(reply) => {
-            let fin = final_state(protocol, start, Event::Store, ReplyName::Reply(reply));
+            let fin = terms::final_state(
+                protocol.draft(),
+                start,
+                Event::Store,
+                ReplyName::Reply(reply),
+            );
             ends(alloc, protocol, tag, &[Act::Fill], fin)
         }
         Input::DataPart(reply) => takes_part(alloc, protocol, start, tag, reply),
@@ -183,7 +191,12 @@ pub fn when_upgrading(alloc: Global, protocol: &Protocol, start: u8, input: Inpu
 {
     match input {
         Input::CountAll => {
-            let fin = final_state(protocol, start, Event::Store, ReplyName::AckCount);
+            let fin = terms::final_state(
+                protocol.draft(),
+                start,
+                Event::Store,
+                ReplyName::AckCount,
+            );
             ends(alloc, protocol, Tag::Plain, &[], fin)
         }
         Input::CountPart => waits(

@@ -5,10 +5,11 @@ ghost use Rattle.pg_table.specs.Generated.{chosen};
 
 use crate::asking::{when_loading, when_storing, when_upgrading, when_waiting};
 use crate::choice::Chosen;
+use crate::controller::State;
 use crate::stable::{when_leaving, when_stable};
 use pg_perm::{Event, Mode};
 use pg_shape::Protocol;
-use pg_table::{Desc, Input, Phase, Tag};
+use pg_table::{Act, Desc, Input, Phase, Tag};
 use std::alloc::Global;
 
 fn when_asking(
@@ -32,19 +33,24 @@ fn when_asking(
     }
 }
 
-/// What is done in a state at an input, or none where the input can't come. Of two choices the stalling mode has the one in which the forward
-/// waits, and the deferring mode the other.
-pub fn choose(alloc: Global, protocol: &Protocol, mode: Mode, desc: Desc, input: Input) -> Chosen
-    ensures { IfOk result (λ c. c ≡ chosen mode (may.choices protocol.now desc input)) }
-{
-    match desc {
-        Desc::Stable(state) => when_stable(alloc, protocol, state, input),
-        Desc::Ask {
-            event,
-            start,
-            phase,
-            tag,
-        } => when_asking(alloc, protocol, mode, event, start, phase, tag, input),
-        Desc::Leave(state) => when_leaving(alloc, protocol, state, input),
+impl State for Desc {
+    type Input = Input;
+    type Act = Act;
+
+    ghost choice = { λ d m s i. chosen m (may.choices d s i) };
+
+    /// What is done in a state at an input, or none where the input can't come. Of two choices the stalling mode has the one in which the forward
+    /// waits, and the deferring mode the other.
+    fn choose(self, alloc: Global, protocol: &Protocol, mode: Mode, input: Input) -> Chosen {
+        match self {
+            Desc::Stable(state) => when_stable(alloc, protocol, state, input),
+            Desc::Ask {
+                event,
+                start,
+                phase,
+                tag,
+            } => when_asking(alloc, protocol, mode, event, start, phase, tag, input),
+            Desc::Leave(state) => when_leaving(alloc, protocol, state, input),
+        }
     }
 }

@@ -11,7 +11,7 @@ ghost use Rattle.pg_table.specs.Generated.{chosen};
 ghost use Rattle.pg_infer.specs.Moves.{moved as moved_to};
 ghost use Rattle.pg_infer.specs.Race as race;
 
-use crate::after::{keep_of, may_keep, pairs_of, store_phase};
+use crate::after::{pairs_of, store_phase};
 use crate::choice::{Choice, Chosen, step};
 use pg_perm::{Event, FwdClass, Mode, MsgClass, Pair, Role, Sequence, Side};
 use pg_race::order;
@@ -19,12 +19,6 @@ use pg_shape::Protocol;
 use pg_table::{Act, Desc, Phase, Tag};
 use pg_terms as terms;
 use std::alloc::{AllocError, Global};
-
-fn has_class(protocol: &Protocol, class: FwdClass, forward: u8) -> bool
-    ensures { result ≡ term.has_class class protocol.now forward }
-{
-    terms::has_class(class, protocol.draft(), usize::from(forward))
-}
 
 /// The answer of a forward, with the reply of its take row.
 fn answer(
@@ -36,14 +30,14 @@ fn answer(
     ensures { IfOk result (λ acts. acts.items ≡ may.answer protocol.now forward reply) }
 {
     let mut acts = Vec::new(alloc);
-    if has_class(protocol, FwdClass::Inv, forward) {
+    if terms::has_class(FwdClass::Inv, protocol.draft(), forward) {
         acts.push(Act::Ack)?;
         return Ok(acts);
     }
     if let Some(reply) = reply {
         acts.push(Act::Give(reply))?;
     }
-    if has_class(protocol, FwdClass::Share, forward) {
+    if terms::has_class(FwdClass::Share, protocol.draft(), forward) {
         acts.push(Act::Wb)?;
     }
     Ok(acts)
@@ -90,8 +84,8 @@ fn any_due(protocol: &Protocol, pairs: &[Pair], forward: u8) -> bool
 fn is_due_once_kept(protocol: &Protocol, state: u8, forward: u8) -> bool
     ensures { result ≡ (says.may_keep protocol.now state && option_map_or (λ k. due.is_due protocol.now k forward) (term.keep_of protocol.now state) false) }
 {
-    may_keep(protocol, state)
-        && match keep_of(protocol, state) {
+    protocol.may_keep(state)
+        && match terms::keep_of(protocol.draft(), state) {
             Some(kept) => protocol.due(kept, forward),
             None => false,
         }
@@ -132,9 +126,9 @@ fn is_later(protocol: &Protocol, start: u8, event: Event, tag: Tag, forward: u8)
 fn tag_by(protocol: &Protocol, forward: u8) -> Tag
     ensures { result ≡ may.tag_by protocol.now forward }
 {
-    if has_class(protocol, FwdClass::Share, forward) {
+    if terms::has_class(FwdClass::Share, protocol.draft(), forward) {
         Tag::Gave
-    } else if has_class(protocol, FwdClass::Keep, forward) {
+    } else if terms::has_class(FwdClass::Keep, protocol.draft(), forward) {
         Tag::Kept
     } else {
         Tag::Gone
@@ -145,7 +139,7 @@ fn tag_by(protocol: &Protocol, forward: u8) -> Tag
 fn taking(protocol: &Protocol, forward: u8) -> Act
     ensures { result ≡ (if term.has_class FwdClass.Inv protocol.now forward then Act.Ack else Act.Defer) }
 {
-    if has_class(protocol, FwdClass::Inv, forward) {
+    if terms::has_class(FwdClass::Inv, protocol.draft(), forward) {
         Act::Ack
     } else {
         Act::Defer
@@ -185,7 +179,7 @@ pub fn later(
 fn role_of_start(protocol: &Protocol, start: u8) -> Role
     ensures { result ≡ race.role_of_start protocol.now start }
 {
-    if terms::is(terms::shared(protocol.draft()), usize::from(start)) {
+    if terms::is(terms::shared(protocol.draft()), start) {
         Role::Shared
     } else {
         Role::Out

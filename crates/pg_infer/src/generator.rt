@@ -20,5 +20,5 @@ pub fn generate(alloc: Global, protocol: &Protocol, mode: Mode) -> Result<Tables
 {
     let cache = cache_table(alloc, protocol, mode)?;
     let home = home_table(alloc, protocol)?;
-    Tables::make(alloc, protocol, mode, cache, home)
+    Tables::make(protocol, mode, cache, home)
 }

@@ -7,6 +7,7 @@ mod after;
 mod asking;
 mod choice;
 mod choices;
+mod controller;
 mod directory;
 mod forwards;
 mod generator;

@@ -17,20 +17,13 @@ use pg_table::{Act, Desc, Input, Phase, Tag};
 use pg_terms as terms;
 use std::alloc::Global;
 
-/// The first request of a class.
-fn request_of(protocol: &Protocol, class: ReqClass) -> Option<u8>
-    ensures { result ≡ term.request_of protocol.now class }
-{
-    Some(terms::request_of(protocol.draft(), class)? as u8)
-}
-
 fn by_load(alloc: Global, protocol: &Protocol, state: u8) -> Chosen
     ensures { IfOk result (λ c. (mode : Mode) → c ≡ chosen mode (may.by_load protocol.now state)) }
 {
-    if terms::is_allowed(protocol.draft(), Event::Load, usize::from(state)) {
+    if terms::is_allowed(protocol.draft(), Event::Load, state) {
         return step(alloc, &[Act::Hit], Desc::Stable(state));
     }
-    let Some(request) = request_of(protocol, ReqClass::Read) else {
+    let Some(request) = protocol.request_of(ReqClass::Read) else {
         return Ok(None);
     };
     let next = Desc::Ask {
@@ -46,7 +39,7 @@ fn by_load(alloc: Global, protocol: &Protocol, state: u8) -> Chosen
 fn hit_next(protocol: &Protocol, state: u8) -> Option<u8>
     ensures { result ≡ option_and_then (λ l. says.store_next state Event.Store l.form) (term.core_row protocol.now state Event.Store) }
 {
-    let line = terms::core_row(protocol.draft(), usize::from(state), Event::Store)?;
+    let line = terms::core_row(protocol.draft(), state, Event::Store)?;
     terms::store_next(state, Event::Store, &line.form)
 }
 
@@ -62,7 +55,7 @@ fn hit(alloc: Global, protocol: &Protocol, state: u8) -> Chosen
 fn ask_to_write(alloc: Global, protocol: &Protocol, state: u8) -> Chosen
     ensures { IfOk result (λ c. (mode : Mode) → c ≡ chosen mode (may.given (term.request_of protocol.now ReqClass.Write) (λ q. may.only (Act.Send q ∷ []) (Desc.Ask Event.Store state (of.store_phase protocol.now state) Tag.Plain)))) }
 {
-    let Some(request) = request_of(protocol, ReqClass::Write) else {
+    let Some(request) = protocol.request_of(ReqClass::Write) else {
         return Ok(None);
     };
     let next = Desc::Ask {
@@ -77,7 +70,7 @@ fn ask_to_write(alloc: Global, protocol: &Protocol, state: u8) -> Chosen
 fn by_store(alloc: Global, protocol: &Protocol, state: u8) -> Chosen
     ensures { IfOk result (λ c. (mode : Mode) → c ≡ chosen mode (may.by_store protocol.now state)) }
 {
-    if terms::is_allowed(protocol.draft(), Event::Store, usize::from(state)) {
+    if terms::is_allowed(protocol.draft(), Event::Store, state) {
         hit(alloc, protocol, state)
     } else {
         ask_to_write(alloc, protocol, state)
@@ -96,14 +89,14 @@ fn leaves_by(form: &CoreForm) -> Option<u8>
 fn evict_request(protocol: &Protocol, state: u8) -> Option<u8>
     ensures { result ≡ option_and_then (λ l. may.leaves_by l.form) (term.core_row protocol.now state Event.Evict) }
 {
-    let line = terms::core_row(protocol.draft(), usize::from(state), Event::Evict)?;
+    let line = terms::core_row(protocol.draft(), state, Event::Evict)?;
     leaves_by(&line.form)
 }
 
 fn by_evict(alloc: Global, protocol: &Protocol, state: u8) -> Chosen
     ensures { IfOk result (λ c. (mode : Mode) → c ≡ chosen mode (may.by_evict protocol.now state)) }
 {
-    if terms::is(terms::out(protocol.draft()), usize::from(state)) {
+    if terms::is(terms::out(protocol.draft()), state) {
         return step(alloc, &[Act::Skip], Desc::Stable(state));
     }
     match evict_request(protocol, state) {

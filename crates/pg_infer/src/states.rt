@@ -144,7 +144,7 @@ fn put_reader(
 ) -> Result<(), AllocError>
     ensures { IfOk result (λ _. states.new.items ≡ states.old.items ++ (if term.cache_is term.is_read_owner protocol.now state then of.store_states protocol.now mode state else [])) }
 {
-    if terms::is_read_owner_state(protocol.draft(), usize::from(state)) {
+    if terms::is_read_owner_state(protocol.draft(), state) {
         put_store(states, protocol, mode, state)?;
     }
     Ok(())

@@ -1,3 +1,5 @@
 pub mod Ascii
 pub mod Booleans
+pub mod Clones
 pub mod Ranks
+pub mod ReadBack

@@ -1,8 +1,10 @@
 -- The rules that a line can break, and the order of faults.
-use Rattle.std.specs.Prelude.{ℕ, ◌≡◌, ◌<◌, ◌≤◌, ◌⊎◌, List, codes}
+use Rattle.std.specs.Prelude.{ℕ, ◌+◌, ◌≡◌, ◌<◌, ◌≤◌, ◌⊎◌, List, [], ◌∷◌, codes}
+use denote.Enum.Declared.{tag_of}
 use Rattle.pg_perm.specs.declared.fault.Fault.{Fault}
 use Rattle.pg_perm.specs.declared.fault.Rule.{Rule}
 use Rattle.pg_perm.specs.declared.fault.Rule.TheVariants.{F1, F2, F3, F4, F5, F6, S1, S2, S3, S4, S5, S6, S7, S8, S9, S10, S11, S12, S13, S14, S15, S16, S17, S18, S19, C1, C2, C3, C4, C5}
+use Rattle.pg_perm.specs.contracts.fault.Rule.{the_type}
 
 -- how a rule is printed
 abbrev pub rule_name : Rule → List ℕ
@@ -37,38 +39,13 @@ rule_name C3 = codes "C3"
 rule_name C4 = codes "C4"
 rule_name C5 = codes "C5"
 
--- the place of a rule among the rules
+-- the place of a rule among the rules, counted from 1
 abbrev pub rule_rank : Rule → ℕ
-rule_rank F1 = 1
-rule_rank F2 = 2
-rule_rank F3 = 3
-rule_rank F4 = 4
-rule_rank F5 = 5
-rule_rank F6 = 6
-rule_rank S1 = 7
-rule_rank S2 = 8
-rule_rank S3 = 9
-rule_rank S4 = 10
-rule_rank S5 = 11
-rule_rank S6 = 12
-rule_rank S7 = 13
-rule_rank S8 = 14
-rule_rank S9 = 15
-rule_rank S10 = 16
-rule_rank S11 = 17
-rule_rank S12 = 18
-rule_rank S13 = 19
-rule_rank S14 = 20
-rule_rank S15 = 21
-rule_rank S16 = 22
-rule_rank S17 = 23
-rule_rank S18 = 24
-rule_rank S19 = 25
-rule_rank C1 = 26
-rule_rank C2 = 27
-rule_rank C3 = 28
-rule_rank C4 = 29
-rule_rank C5 = 30
+rule_rank R = tag_of the_type R + 1
+
+-- the rules in their order: F, then S, then C, each by number
+abbrev pub ordered_rules : List Rule
+ordered_rules = F1 ∷ F2 ∷ F3 ∷ F4 ∷ F5 ∷ F6 ∷ S1 ∷ S2 ∷ S3 ∷ S4 ∷ S5 ∷ S6 ∷ S7 ∷ S8 ∷ S9 ∷ S10 ∷ S11 ∷ S12 ∷ S13 ∷ S14 ∷ S15 ∷ S16 ∷ S17 ∷ S18 ∷ S19 ∷ C1 ∷ C2 ∷ C3 ∷ C4 ∷ C5 ∷ []
 
 -- a fault is no later than a line and a rule: by the line, and then by the rule
 abbrev pub IsNoLater : Fault → ℕ → Rule → Type 0

@@ -23,7 +23,7 @@ pub type Rows = Sequence<RowLine>;
 ///
 /// Cache states, directory states and messages are numbered from 0, each kind for itself, in the order in which the text
 /// declares them. Each `line` is the number of a line of the text, from 1.
-#[derive(Debug, Drop, PartialEq, Eq)]
+#[derive(Clone, Debug, Drop, PartialEq, Eq)]
 pub struct Draft {
     pub line: u32,
     pub name: Word,
@@ -37,7 +37,7 @@ pub struct Draft {
 }
 
 /// A cache state. One that is `clean` has in memory what it has in the cache.
-#[derive(Debug, Drop, PartialEq, Eq)]
+#[derive(Clone, Debug, Drop, PartialEq, Eq)]
 pub struct CacheLine {
     pub line: u32,
     pub name: Word,
@@ -47,7 +47,7 @@ pub struct CacheLine {
 }
 
 /// A directory state, and in which states its owner may be.
-#[derive(Debug, Drop, PartialEq, Eq)]
+#[derive(Clone, Debug, Drop, PartialEq, Eq)]
 pub struct DirLine {
     pub line: u32,
     pub name: Word,
@@ -55,7 +55,7 @@ pub struct DirLine {
     pub beside: States,
 }
 
-#[derive(Debug, Drop, PartialEq, Eq)]
+#[derive(Clone, Debug, Drop, PartialEq, Eq)]
 pub struct MsgLine {
     pub line: u32,
     pub name: Word,
@@ -74,7 +74,7 @@ pub enum MsgClass {
 }
 
 /// What a core does at an event in a stable state.
-#[derive(Debug, Drop, PartialEq, Eq)]
+#[derive(Clone, Debug, Drop, PartialEq, Eq)]
 pub struct CoreLine {
     pub line: u32,
     pub state: u8,
@@ -82,7 +82,7 @@ pub struct CoreLine {
     pub form: CoreForm,
 }
 
-#[derive(Debug, Drop, PartialEq, Eq)]
+#[derive(Clone, Debug, Drop, PartialEq, Eq)]
 pub enum CoreForm {
     /// It is done at once, and the line goes to the state that is named, or stays.
     Hit(Option<u8>),

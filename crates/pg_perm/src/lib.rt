@@ -7,9 +7,11 @@
 mod draft;
 mod fault;
 mod kinds;
+mod laws;
 mod names;
 mod sequence;
 mod step;
+mod vocabulary;
 mod word;
 mod words;
 
@@ -21,13 +23,12 @@ pub use fault::{Fault, Rule};
 pub use kinds::{
     Access, DirKind, Event, FwdClass, Left, Mode, Op, Perm, ReqClass, Role, Side, Who,
 };
+pub use laws::rules_are_ranked;
 pub use names::{cache_name, dir_name, message_name};
 pub use sequence::Sequence;
 pub use step::{Step, Steps};
+pub use vocabulary::{Vocabulary, find_among, find_word};
 pub use word::{Word, is_name, is_state_name};
-pub use words::{
-    dir_word, event_word, forward_word, left_word, perm_word, request_word, role_word, who_word,
-};
 
 #[cfg(test)]
 mod tests;

@@ -84,6 +84,17 @@ impl<T> From<Vec<T>> for Sequence<T> {
     }
 }
 
+impl<T: Clone> Clone for Sequence<T> {
+    ghost use Rattle.std.specs.List.{AllZip};
+
+    ghost is_clone = { AllZip T.is_clone };
+
+    fn clone(&self) -> Result<Sequence<T>, AllocError> {
+        let items = self.items.clone()?;
+        Ok(Sequence { items })
+    }
+}
+
 impl<T: PartialEq> PartialEq for Sequence<T> {
     ghost use Rattle.std.specs.Cmp.Lexicographic.{pointwise, lists_per};
 

@@ -43,14 +43,18 @@ fn lists(rt: HostRuntime) -> Result<(), Fail> {
 
 #[test]
 fn kinds_have_words(rt: HostRuntime) {
-    assert_eq!(rt; role_word(Role::Out), "out");
-    assert_eq!(rt; perm_word(Perm::Write), "write");
-    assert_eq!(rt; request_word(ReqClass::Dirty), "dirty");
-    assert_eq!(rt; event_word(Event::Evict), "evict");
-    assert_eq!(rt; dir_word(DirKind::Mixed), "mixed");
-    assert_eq!(rt; forward_word(FwdClass::Inv), "inv");
-    assert_eq!(rt; who_word(Who::Sharer), "sharer");
-    assert_eq!(rt; left_word(Left::More), "more");
+    assert_eq!(rt; Role::Out.word(), "out");
+    assert_eq!(rt; Mode::Defer.word(), "defer");
+    assert_eq!(rt; find_word(b"write".as_slice()), Some(Perm::Write));
+    assert_eq!(rt; find_word(b"dirty".as_slice()), Some(ReqClass::Dirty));
+    assert_eq!(rt; find_word(b"evict".as_slice()), Some(Event::Evict));
+    assert_eq!(rt; find_word(b"mixed".as_slice()), Some(DirKind::Mixed));
+    assert_eq!(rt; find_word(b"inv".as_slice()), Some(FwdClass::Inv));
+    assert_eq!(rt; find_word(b"more".as_slice()), Some(Left::More));
+    assert_eq!(rt;
+        find_among(&[Who::Sharer, Who::Owner], b"other".as_slice()),
+        None
+    );
 }
 
 #[test]

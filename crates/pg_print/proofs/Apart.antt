@@ -26,7 +26,8 @@ use Rattle.pg_print.proofs.Endings.{letters, ending_begins, same_ending}
 use Rattle.pg_print.proofs.Written.{cache_lacks, dir_lacks, same_cache, same_dir}
 use Rattle.pg_print.proofs.Joins.{join_lacks, same_join}
 use Rattle.pg_print.proofs.Known.{IsAsked, Fits, HomeFits, state_fits, home_state_fits}
-use Rattle.pg_print.proofs.Starts.{start_ends, out_below}
+use Rattle.pg_table.proofs.Members.{out_below, out_is}
+use Rattle.pg_print.proofs.Starts.{start_ends}
 
 -- what stands before the `_` of the name of a state that has asked
 abbrev begun : Draft → Event → ℕ → List ℕ
@@ -90,7 +91,7 @@ ask_not_left d w shaped e s r p t asked named =
     at (inr (store, phase, start)) phased named =
         let (f, first, below, other) = (start_ends d w shaped s start).1 in
         let stored : first_name d (finals d s Store) ≡ cache_name d (out_state d) = ap (λ (event : Event). first_name d (finals d s event)) (sym store) ∙ named in
-        other (same_cache d w f (out_state d) below (out_below d shaped.perms) (sym first ∙ stored))
+        other (same_cache d w f (out_state d) below (out_below d (out_state d) (out_is d shaped.perms)) (sym first ∙ stored))
 
 apart : (d : Draft) → IsWellFormed d → IsShaped d → (s t : Desc) → Fits d s → Fits d t → state_name d s ≡ state_name d t → s ≡ t
 apart d w shaped (Stable s) (Stable t) a b e = ap (λ (n : ℕ). Stable n) (same_cache d w s t a b e)
@@ -113,7 +114,7 @@ apart d w shaped (Leave s) (Leave t) a b e =
 pub states_apart : (d : Draft) (m : Mode) (s t : Desc) → IsWellFormed d → IsShaped d → is_among (descs d m) s ≡ true → is_among (descs d m) t ≡ true
     → state_name d s ≡ state_name d t → s ≡ t
 states_apart d m s t w shaped a b e =
-    apart d w shaped s t (state_fits d m s (out_below d shaped.perms) a) (state_fits d m t (out_below d shaped.perms) b) e
+    apart d w shaped s t (state_fits d m s shaped.perms a) (state_fits d m t shaped.perms b) e
 
 home_apart : (d : Draft) → IsWellFormed d → (s t : DirDesc) → HomeFits d s → HomeFits d t → home_name d s ≡ home_name d t → s ≡ t
 home_apart d w (State n) (State m) a b e = ap (λ (k : ℕ). State k) (same_dir d w n m a b e)

@@ -1,8 +1,7 @@
 -- Joined names tell which names were joined.
 use Rattle.std.proofs.Common.{◌≡◌, ℕ, Bool, true, false, cond, ◌&&◌, List, [], ◌∷◌, ◌++◌, length, refl, sym, ◌∙◌, append_assoc, arith}
 use Rattle.std.specs.Prelude.{codes}
-use Rattle.std.proofs.lemmas.Bool.{eqb-true}
-use Rattle.pg_perm.proofs.Booleans.{both}
+use Rattle.std.proofs.lemmas.Bool.{eqb-true, and_parts}
 use Rattle.pg_print.specs.Names.{is_single, join}
 use Rattle.pg_print.proofs.Lacking.{lacks, lacks_both, lacks_apart, same_around}
 
@@ -30,7 +29,7 @@ pub same_join : (a b x y : List ℕ) → lacks 46 a ≡ true → lacks 46 b ≡ 
 same_join a b x y ha hb hx hy e = at (is_single a && is_single b) refl (is_single x && is_single y) refl e
   where
     one : (a b : List ℕ) → (is_single a && is_single b) ≡ true → length a ≡ 1
-    one a b h = eqb-true (length a) 1 (both (is_single a) (is_single b) h).0
+    one a b h = eqb-true (length a) 1 (and_parts (is_single a) (is_single b) h).0
 
     at : (t : Bool) → (is_single a && is_single b) ≡ t → (u : Bool) → (is_single x && is_single y) ≡ u
         → cond t (a ++ b) (a ++ codes "." ++ b) ≡ cond u (x ++ y) (x ++ codes "." ++ y) → (a ≡ x) × (b ≡ y)

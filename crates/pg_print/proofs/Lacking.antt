@@ -2,10 +2,9 @@
 use Rattle.std.proofs.Common.{◌≡◌, ℕ, Bool, true, not, List, [], ◌∷◌, ◌++◌, refl, ◌∙◌}
 use Rattle.std.specs.Prelude.{◌==◌}
 use Rattle.std.specs.List.{list_all}
-use Rattle.std.proofs.lemmas.Bool.{eq-eqb}
+use Rattle.std.proofs.lemmas.Bool.{eq-eqb, and_parts, not-true}
 use Rattle.std.proofs.lemmas.List.Folds.{list_all-append}
-use Rattle.pg_perm.proofs.Booleans.{both}
-use Rattle.pg_shape.proofs.Bools.{and_both, true_not}
+use Rattle.pg_shape.proofs.Bools.{and_both}
 use Rattle.pg_shape.proofs.Searches.{not_both}
 
 -- the byte stands nowhere
@@ -17,10 +16,10 @@ lacks_both c a b h g = list_all-append (λ b. not (b == c)) a b ∙ and_both (la
 
 -- it isn't the first
 not_first : (c b : ℕ) (bs : List ℕ) → lacks c (b ∷ bs) ≡ true → b ≡ c → ⊥
-not_first c b bs h e = not_both (b == c) (eq-eqb b c e) (true_not (b == c) (both (not (b == c)) (lacks c bs) h).0)
+not_first c b bs h e = not_both (b == c) (eq-eqb b c e) (not-true (b == c) (and_parts (not (b == c)) (lacks c bs) h).0)
 
 behind_first : (c b : ℕ) (bs : List ℕ) → lacks c (b ∷ bs) ≡ true → lacks c bs ≡ true
-behind_first c b bs h = (both (not (b == c)) (lacks c bs) h).1
+behind_first c b bs h = (and_parts (not (b == c)) (lacks c bs) h).1
 
 -- a text in which it doesn't stand is another than one in which it does
 pub lacks_apart : (c : ℕ) (a b x : List ℕ) → lacks c a ≡ true → a ≡ b ++ c ∷ x → ⊥

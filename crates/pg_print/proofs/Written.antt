@@ -5,13 +5,13 @@ use Rattle.std.specs.List.{list_all, list_any}
 use Rattle.std.proofs.lemmas.Bool.Decides.{nat_tests}
 use Rattle.std.proofs.lemmas.List.{length-map}
 use Rattle.std.proofs.lemmas.Slice.Eq.{bytes_eq-Decides}
-use Rattle.pg_perm.proofs.Booleans.{both}
+use Rattle.std.proofs.lemmas.Bool.{and_parts, not-true}
 use Rattle.pg_perm.specs.declared.draft.Draft.{Draft}
 use Rattle.pg_perm.specs.Names.{is_letter, is_digit, is_underscore, is_name_byte, is_name, is_state_name}
 use Rattle.pg_perm.specs.Drafts.{cache_names, dir_names, message_names, are_distinct, IsWellFormed}
 use Rattle.pg_perm.specs.Words.{name_of, cache_name, dir_name}
 use Rattle.pg_lines.proofs.Weaker.{all_weaker}
-use Rattle.pg_shape.proofs.Bools.{and_both, true_not}
+use Rattle.pg_shape.proofs.Bools.{and_both}
 use Rattle.pg_shape.proofs.Searches.{not_both, all_at, any_at, get_below}
 use Rattle.pg_print.proofs.Lacking.{lacks}
 
@@ -26,8 +26,8 @@ letter_byte b h = ap (λ (t : Bool). (t || is_digit b) || is_underscore b) h
 bytes_of : (w : List ℕ) → is_name w ≡ true → list_all is_name_byte w ≡ true
 bytes_of [] h = absurd cc
 bytes_of (b ∷ bs) h =
-    let parts = both (is_letter b && nat_lt (length bs) 24) (list_all is_name_byte bs) h in
-    and_both (is_name_byte b) (list_all is_name_byte bs) (letter_byte b (both (is_letter b) (nat_lt (length bs) 24) parts.0).0) parts.1
+    let parts = and_parts (is_letter b && nat_lt (length bs) 24) (list_all is_name_byte bs) h in
+    and_both (is_name_byte b) (list_all is_name_byte bs) (letter_byte b (and_parts (is_letter b) (nat_lt (length bs) 24) parts.0).0) parts.1
 
 none_all : (w : List ℕ) → list_any is_underscore w ≡ false → lacks 95 w ≡ true
 none_all [] h = refl
@@ -39,8 +39,8 @@ none_all (b ∷ bs) h = at (b == 95) h (none_all bs)
 
 state_name_lacks : (w : List ℕ) → is_state_name w ≡ true → (lacks 95 w ≡ true) × (lacks 46 w ≡ true)
 state_name_lacks w h =
-    let parts = both (is_name w) (not (list_any is_underscore w)) h in
-    (none_all w (true_not (list_any is_underscore w) parts.1), all_weaker is_name_byte (λ b. not (b == 46)) w no_dot (bytes_of w parts.0))
+    let parts = and_parts (is_name w) (not (list_any is_underscore w)) h in
+    (none_all w (not-true (list_any is_underscore w) parts.1), all_weaker is_name_byte (λ b. not (b == 46)) w no_dot (bytes_of w parts.0))
 
 -- a name by its number
 name_lacks : (names : List (List ℕ)) (n : ℕ) → list_all is_state_name names ≡ true → (lacks 95 (name_of names n) ≡ true) × (lacks 46 (name_of names n) ≡ true)
@@ -56,7 +56,7 @@ no_other : (n : List ℕ) (ns : List (List ℕ)) (j : ℕ) → not (list_any (by
 no_other n ns j h below e =
     let (x, get) = get_below ns j below in
     let same : n ≡ x = e ∙ ap (λ (o : Option (List ℕ)). unwrap_or o []) get in
-    not_both (list_any (bytes_eq n) ns) (any_at (bytes_eq n) ns j x get ((bytes_eq-Decides n x).1 same)) (true_not (list_any (bytes_eq n) ns) h)
+    not_both (list_any (bytes_eq n) ns) (any_at (bytes_eq n) ns j x get ((bytes_eq-Decides n x).1 same)) (not-true (list_any (bytes_eq n) ns) h)
 
 -- where no name stands twice, a name has one number
 same_number : (names : List (List ℕ)) (i j : ℕ) → are_distinct names ≡ true → i < length names → j < length names
@@ -64,19 +64,19 @@ same_number : (names : List (List ℕ)) (i j : ℕ) → are_distinct names ≡ t
 same_number [] i j h a b e = absurd (omega arith)
 same_number (n ∷ ns) zero zero h a b e = refl
 same_number (n ∷ ns) zero (suc j) h a b e =
-    absurd (no_other n ns j (both (not (list_any (bytes_eq n) ns)) (are_distinct ns) h).0 (omega arith) e)
+    absurd (no_other n ns j (and_parts (not (list_any (bytes_eq n) ns)) (are_distinct ns) h).0 (omega arith) e)
 same_number (n ∷ ns) (suc i) zero h a b e =
-    absurd (no_other n ns i (both (not (list_any (bytes_eq n) ns)) (are_distinct ns) h).0 (omega arith) (sym e))
+    absurd (no_other n ns i (and_parts (not (list_any (bytes_eq n) ns)) (are_distinct ns) h).0 (omega arith) (sym e))
 same_number (n ∷ ns) (suc i) (suc j) h a b e =
-    ap (λ (k : ℕ). suc k) (same_number ns i j (both (not (list_any (bytes_eq n) ns)) (are_distinct ns) h).1 (omega arith) (omega arith) e)
+    ap (λ (k : ℕ). suc k) (same_number ns i j (and_parts (not (list_any (bytes_eq n) ns)) (are_distinct ns) h).1 (omega arith) (omega arith) e)
 
 -- Drafts
 
 caches_and_dirs : (d : Draft) → IsWellFormed d → (list_all is_state_name (cache_names d) ≡ true) × (list_all is_state_name (dir_names d) ≡ true)
 caches_and_dirs d w =
-    let all = both (is_name d.name && list_all is_state_name (cache_names d) && list_all is_state_name (dir_names d)) (list_all is_name (message_names d)) w.names in
-    let first = both (is_name d.name && list_all is_state_name (cache_names d)) (list_all is_state_name (dir_names d)) all.0 in
-    ((both (is_name d.name) (list_all is_state_name (cache_names d)) first.0).1, first.1)
+    let all = and_parts (is_name d.name && list_all is_state_name (cache_names d) && list_all is_state_name (dir_names d)) (list_all is_name (message_names d)) w.names in
+    let first = and_parts (is_name d.name && list_all is_state_name (cache_names d)) (list_all is_state_name (dir_names d)) all.0 in
+    ((and_parts (is_name d.name) (list_all is_state_name (cache_names d)) first.0).1, first.1)
 
 pub cache_lacks : (d : Draft) → IsWellFormed d → (s : ℕ) → (lacks 95 (cache_name d s) ≡ true) × (lacks 46 (cache_name d s) ≡ true)
 cache_lacks d w s = name_lacks (cache_names d) s (caches_and_dirs d w).0
@@ -86,9 +86,9 @@ dir_lacks d w n = name_lacks (dir_names d) n (caches_and_dirs d w).1
 
 distinct : (d : Draft) → IsWellFormed d → (are_distinct (cache_names d) ≡ true) × (are_distinct (dir_names d) ≡ true)
 distinct d w =
-    let all = both (are_distinct (cache_names d) && are_distinct (dir_names d) && are_distinct (message_names d)) _ w.free in
-    both (are_distinct (cache_names d)) (are_distinct (dir_names d))
-    (both (are_distinct (cache_names d) && are_distinct (dir_names d)) (are_distinct (message_names d)) all.0).0
+    let all = and_parts (are_distinct (cache_names d) && are_distinct (dir_names d) && are_distinct (message_names d)) _ w.free in
+    and_parts (are_distinct (cache_names d)) (are_distinct (dir_names d))
+    (and_parts (are_distinct (cache_names d) && are_distinct (dir_names d)) (are_distinct (message_names d)) all.0).0
 
 pub same_cache : (d : Draft) → IsWellFormed d → (s t : ℕ) → s < length d.caches → t < length d.caches → cache_name d s ≡ cache_name d t → s ≡ t
 same_cache d w s t a b e =

@@ -1,8 +1,6 @@
 -- The words for inputs and acts.
 use Rattle.std.specs.Prelude.{ℕ, List, [], ◌∷◌, ◌++◌, codes}
 use Rattle.std.specs.Option.{option_map_or}
-use Rattle.pg_perm.specs.declared.kinds.Mode.{Mode}
-use Rattle.pg_perm.specs.declared.kinds.Mode.TheVariants as mode
 use Rattle.pg_perm.specs.declared.kinds.ReqClass.{ReqClass}
 use Rattle.pg_perm.specs.declared.draft.Draft.{Draft}
 use Rattle.pg_perm.specs.Words.{message_name, event_word, who_word, left_word}
@@ -15,10 +13,6 @@ use Rattle.pg_table.specs.declared.home.DirInput.{DirInput}
 use Rattle.pg_table.specs.declared.home.DirInput.TheVariants as met
 use Rattle.pg_table.specs.declared.home.DirAct.{DirAct}
 use Rattle.pg_table.specs.declared.home.DirAct.TheVariants as does
-
-abbrev pub mode_word : Mode → List ℕ
-mode_word mode.Stall = codes "stall"
-mode_word mode.Defer = codes "defer"
 
 -- Cache controllers
 

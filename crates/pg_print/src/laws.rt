@@ -13,7 +13,7 @@ ghost use Rattle.pg_table.specs.Home.{home_descs};
 ghost use Rattle.pg_table.specs.Sound.{is_among};
 ghost use Rattle.pg_perm.specs.declared.kinds.Mode.TheVariants as mode;
 ghost use Rattle.pg_table.specs.Tables.{cache_table, home_table, same_dir_desc};
-ghost use Rattle.pg_table.specs.Worked.{mi, msi};
+ghost use Rattle.pg_samples.specs.Drafts.{mi, msi};
 ghost use Rattle.pg_print.specs.Names.{state_name, home_name};
 ghost use Rattle.pg_print.specs.TableText.{table_text};
 ghost use Rattle.pg_print.specs.Worked.{mi_stall_text, mi_defer_text, msi_stall_text, msi_defer_text};

@@ -9,8 +9,7 @@
 //! two has more than a character; and then what it waits for, and its tag: `IM_AD_gone`.
 #![tactic(auto)]
 
-mod cache;
-mod home;
+mod controller;
 mod laws;
 mod line;
 mod name;
@@ -18,6 +17,7 @@ mod printer;
 #[cfg(test)]
 mod tests;
 mod word;
+mod wording;
 
 pub use laws::{names_are_told_apart, worked_texts};
 pub use printer::table_text;

@@ -29,7 +29,7 @@ fn first_name<'a>(draft: &'a Draft, form: &CoreForm) -> &'a str
 }
 
 /// The name of the first final state of an operation that began in this state.
-fn final_name(draft: &Draft, start: usize, event: Event) -> &str
+fn final_name(draft: &Draft, start: u8, event: Event) -> &str
     ensures { result.now ≡ name.first_name draft.now (finals draft.now start event) }
 {
     match core_row(draft, start, event) {
@@ -94,10 +94,9 @@ fn asked_name(
 ) -> Result<String, AllocError>
     ensures { IfOk result (λ text. string_bytes text ≡ name.state_name draft.now (Desc.Ask event start phase tag)) }
 {
-    let start = usize::from(start);
     let mut text = join(
         alloc,
-        cache_name(draft, start),
+        cache_name(draft, usize::from(start)),
         final_name(draft, start, event),
     )?;
     text.push_str(phase_word(phase))?;

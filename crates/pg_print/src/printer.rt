@@ -1,25 +1,23 @@
 ghost use Rattle.std.specs.Prelude.{◌≡◌, [], ◌∷◌, ◌++◌, codes, IfOk};
 ghost use Rattle.std.specs.String.{string_bytes};
 ghost use Rattle.pg_lines.specs.Lines.{line_text};
-ghost use Rattle.pg_print.specs.Words as word;
+ghost use Rattle.pg_perm.specs.Words.{mode_word};
 ghost use Rattle.pg_print.specs.TableText as print;
 
-use crate::cache::put_cache;
-use crate::home::put_home;
-use crate::word::mode_word;
+use crate::controller::put_table;
 use pg_lines::put_line;
-use pg_perm::{Draft, Mode};
+use pg_perm::{Draft, Mode, Vocabulary};
 use pg_table::{DirTable, Table, Tables};
 use std::alloc::{AllocError, Global};
 
 /// Puts the first line last.
 fn put_head(alloc: Global, text: &mut String, draft: &Draft, mode: Mode) -> Result<(), AllocError>
-    ensures { IfOk result (λ _. string_bytes text.new ≡ string_bytes text.old ++ line_text (codes "table" ∷ draft.now.name ∷ word.mode_word mode ∷ [])) }
+    ensures { IfOk result (λ _. string_bytes text.new ≡ string_bytes text.old ++ line_text (codes "table" ∷ draft.now.name ∷ mode_word mode ∷ [])) }
 {
     let mut words = Vec::new(alloc);
     words.push("table")?;
     words.push(draft.name.as_str())?;
-    words.push(mode_word(mode))?;
+    words.push(mode.word())?;
     put_line(alloc, text, &words)
 }
 
@@ -35,8 +33,8 @@ pub fn text_of(
 {
     let mut text = String::new(alloc);
     put_head(alloc, &mut text, draft, mode)?;
-    put_cache(alloc, &mut text, draft, cache.as_slice())?;
-    put_home(alloc, &mut text, draft, home.as_slice())?;
+    put_table(alloc, &mut text, draft, cache)?;
+    put_table(alloc, &mut text, draft, home)?;
     put_line(alloc, &mut text, &["end"])?;
     Ok(text.into_bytes())
 }

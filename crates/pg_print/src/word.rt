@@ -1,23 +1,13 @@
 //! The words for inputs and acts.
 ghost use Rattle.std.specs.Prelude.{◌≡◌, ◌++◌, map, codes, IfOk};
-ghost use Rattle.std.specs.List.{flat_map};
 ghost use Rattle.std.specs.String.{string_bytes};
 ghost use Rattle.pg_perm.specs.Words as perm;
 ghost use Rattle.pg_print.specs.Words as word;
 
-use pg_perm::{Draft, Left, Mode, ReqClass, Who, event_word, left_word, message_name, who_word};
+use pg_perm::{Draft, Left, ReqClass, Vocabulary, Who, message_name};
 use pg_table::{Act, DirAct, DirInput, Input};
 use pg_terms::request_of;
 use std::alloc::{AllocError, Global};
-
-pub fn mode_word(mode: Mode) -> &'static str
-    ensures { result.now ≡ word.mode_word mode }
-{
-    match mode {
-        Mode::Stall => "stall",
-        Mode::Defer => "defer",
-    }
-}
 
 /// The name of a message, and what stands behind it.
 fn message_with(alloc: Global, draft: &Draft, message: u8, end: &str) -> Result<String, AllocError>
@@ -32,7 +22,7 @@ pub fn input_word(alloc: Global, draft: &Draft, input: Input) -> Result<String, 
     ensures { IfOk result (λ text. string_bytes text ≡ word.input_word draft.now input) }
 {
     match input {
-        Input::Core(event) => String::from_str(alloc, event_word(event)),
+        Input::Core(event) => String::from_str(alloc, event.word()),
         Input::Forward(message) => {
             String::from_str(alloc, message_name(draft, usize::from(message)))
         }
@@ -47,7 +37,7 @@ pub fn input_word(alloc: Global, draft: &Draft, input: Input) -> Result<String, 
 }
 
 /// Puts the words of an act last.
-fn put_act<'a>(words: &mut Vec<&'a str>, draft: &'a Draft, act: Act) -> Result<(), AllocError>
+pub fn put_act<'a>(words: &mut Vec<&'a str>, draft: &'a Draft, act: Act) -> Result<(), AllocError>
     ensures { IfOk result (λ _. map (λ w. w.now) words.new.items ≡ map (λ w. w.now) words.old.items ++ word.act_words draft.now act) }
 {
     match act {
@@ -70,22 +60,6 @@ fn put_act<'a>(words: &mut Vec<&'a str>, draft: &'a Draft, act: Act) -> Result<(
         Act::Defer => words.push("defer")?,
         Act::Serve => words.push("serve")?,
         Act::Stall => words.push("stall")?,
-    }
-    Ok(())
-}
-
-/// Puts the words of acts last.
-pub fn put_acts<'a>(
-    words: &mut Vec<&'a str>,
-    draft: &'a Draft,
-    acts: &[Act],
-) -> Result<(), AllocError>
-    ensures { IfOk result (λ _. map (λ w. w.now) words.new.items ≡ map (λ w. w.now) words.old.items ++ flat_map (word.act_words draft.now) acts.now) }
-{
-    let mut left = acts;
-    while let Some((act, rest)) = left.split_first() {
-        put_act(words, draft, *act)?;
-        left = rest;
     }
     Ok(())
 }
@@ -114,9 +88,9 @@ fn evict_word(alloc: Global, who: Who, left: Left) -> Result<String, AllocError>
     ensures { IfOk result (λ text. string_bytes text ≡ codes "evict." ++ perm.who_word who ++ codes "." ++ perm.left_word left) }
 {
     let mut text = String::from_str(alloc, "evict.")?;
-    text.push_str(who_word(who))?;
+    text.push_str(who.word())?;
     text.push_str(".")?;
-    text.push_str(left_word(left))?;
+    text.push_str(left.word())?;
     Ok(text)
 }
 
@@ -124,7 +98,7 @@ pub fn home_input_word(alloc: Global, draft: &Draft, input: DirInput) -> Result<
     ensures { IfOk result (λ text. string_bytes text ≡ word.home_input_word draft.now input) }
 {
     match input {
-        DirInput::Ask(class, who) => with_dot(alloc, request_name(draft, class), who_word(who)),
+        DirInput::Ask(class, who) => with_dot(alloc, request_name(draft, class), who.word()),
         DirInput::Evict(who, left) => evict_word(alloc, who, left),
         DirInput::EvictNone => String::from_str(alloc, "evict.none"),
         DirInput::BusyAsk(class) => String::from_str(alloc, request_name(draft, class)),
@@ -134,7 +108,7 @@ pub fn home_input_word(alloc: Global, draft: &Draft, input: DirInput) -> Result<
 }
 
 /// Puts the words of an act of the directory last.
-fn put_home_act<'a>(
+pub fn put_home_act<'a>(
     words: &mut Vec<&'a str>,
     draft: &'a Draft,
     act: DirAct,
@@ -155,22 +129,6 @@ fn put_home_act<'a>(
         DirAct::Write => words.push("write")?,
         DirAct::PutAck => words.push("putack")?,
         DirAct::Stall => words.push("stall")?,
-    }
-    Ok(())
-}
-
-/// Puts the words of acts of the directory last.
-pub fn put_home_acts<'a>(
-    words: &mut Vec<&'a str>,
-    draft: &'a Draft,
-    acts: &[DirAct],
-) -> Result<(), AllocError>
-    ensures { IfOk result (λ _. map (λ w. w.now) words.new.items ≡ map (λ w. w.now) words.old.items ++ flat_map (word.home_act_words draft.now) acts.now) }
-{
-    let mut left = acts;
-    while let Some((act, rest)) = left.split_first() {
-        put_home_act(words, draft, *act)?;
-        left = rest;
     }
     Ok(())
 }

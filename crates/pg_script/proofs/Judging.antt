@@ -1,15 +1,19 @@
 -- What judging one line says of the rules that the line breaks.
-use Rattle.std.proofs.Common.{◌≡◌, ℕ, ◌≤◌, Bool, true, false, List, Option, Some, None, Ok, Err, refl, sym, ap, subst, ◌∙◌, arith, cond}
+use Rattle.std.proofs.Common.{◌≡◌, ℕ, ◌≤◌, Bool, true, false, List, Option, Some, None, Result, Ok, Err, refl, sym, ap, subst, ◌∙◌, arith, cond}
 use Rattle.std.specs.Prelude.{◌&&◌, ◌==◌, not, length}
 use Rattle.std.specs.Option.{option_map_or}
+use Rattle.pg_perm.specs.declared.fault.Fault.{Fault}
 use Rattle.pg_perm.specs.declared.fault.Rule.{Rule}
-use Rattle.pg_perm.specs.declared.fault.Rule.TheVariants.{C1, C2, C3}
+use Rattle.pg_perm.specs.declared.fault.Rule.TheVariants.{C1, C2, C3, C5}
 use Rattle.pg_perm.specs.Rules.{rule_rank}
 use Rattle.pg_script.specs.declared.statement.Statement.{Statement}
 use Rattle.pg_script.specs.Scripts.{Operations}
-use Rattle.pg_script.specs.ScriptFaults.{is_op, is_bounded, with_statement, statement_at, breaks, after}
-use Rattle.pg_script.specs.Texts.{judged, judge}
-use Rattle.pg_script.proofs.Options.{same_err, same_ok}
+use Rattle.pg_faults.specs.FirstFaults.{IsFirst, IsClean}
+use Rattle.pg_faults.specs.LineRules as faults
+use Rattle.pg_faults.specs.LineRules.{IsExact}
+use Rattle.pg_script.specs.ScriptFaults.{is_op, is_bounded, with_statement, statement_at, breaks, after, script_rules}
+use Rattle.pg_script.specs.Texts.{judged, judge, said_at}
+use Rattle.pg_faults.proofs.LineFaults.{same_err, same_ok}
 
 -- the rules that are broken by a line in a form for its place, from whether its numbers are in bounds and whether there is no room for it
 abbrev broken : Bool → Bool → Rule → Bool
@@ -39,27 +43,19 @@ breaks_is above n line (Some s) e C2 = ap (λ o. option_map_or (λ s. not (is_bo
 breaks_is above n line (Some s) e C3 = ap (λ o. option_map_or (is_over above) o false) e
 breaks_is above n line (Some s) e _ = refl
 
--- R is broken, and each rule that is broken is R or comes behind it
-abbrev pub IsFirst : (Rule → Bool) → Rule → Type 0
-IsFirst test R = (test R ≡ true) × ((Q : Rule) → test Q ≡ true → rule_rank R ≤ rule_rank Q)
-
--- no rule is broken
-abbrev pub IsClean : (Rule → Bool) → Type 0
-IsClean test = (Q : Rule) → test Q ≡ false
-
 -- a line in no form for its place breaks C1 alone
-from_C1 : (above : Operations) (Q : Rule) → broken_by above None Q ≡ true → 26 ≤ rule_rank Q
+from_C1 : (above : Operations) (Q : Rule) → broken_by above None Q ≡ true → rule_rank C1 ≤ rule_rank Q
 from_C1 above C1 h = omega arith
 from_C1 above _ h = absurd cc
 
 -- a line in a form breaks no rule before C2
-from_C2 : (bounded full : Bool) (Q : Rule) → broken bounded full Q ≡ true → 27 ≤ rule_rank Q
+from_C2 : (bounded full : Bool) (Q : Rule) → broken bounded full Q ≡ true → rule_rank C2 ≤ rule_rank Q
 from_C2 bounded full C2 h = omega arith
 from_C2 bounded full C3 h = omega arith
 from_C2 bounded full _ h = absurd cc
 
 -- where its numbers are in bounds, it breaks no rule before C3
-from_C3 : (full : Bool) (Q : Rule) → broken true full Q ≡ true → 28 ≤ rule_rank Q
+from_C3 : (full : Bool) (Q : Rule) → broken true full Q ≡ true → rule_rank C3 ≤ rule_rank Q
 from_C3 full C3 h = omega arith
 from_C3 full _ h = absurd cc
 
@@ -104,6 +100,14 @@ pub judge_clean : (above : Operations) (n : ℕ) (line : List ℕ) (more : Opera
 judge_clean above n line more e =
     let clean = judged_clean above (statement_at n line) more e in
     (clean.0, λ Q. breaks_is above n line (statement_at n line) refl Q ∙ clean.1 Q)
+
+-- judging a line is exact
+pub judge_exact : IsExact script_rules judge
+judge_exact = record { first = judge_first; clean = judge_clean }
+
+-- what reading gives once line n was judged
+abbrev pub read_on : ℕ → Bool → Result Operations Rule → List (List ℕ) → (Operations → Result Operations Fault) → Result Operations Fault
+read_on n is_last j lines go_on = faults.read_on (Some C5) said_at n is_last j lines go_on
 
 -- what a line says that is taken: its numbers are in bounds, and there is room for it
 pub record IsTaken (above more : Operations) (o : Option Statement) : Type 0 where

@@ -4,7 +4,6 @@ pub mod Decimals
 pub mod Spellings
 pub mod Judging
 pub mod Faults
-pub mod Unique
 pub mod Taken
 pub mod Printed
 pub mod Progress

@@ -22,10 +22,10 @@ use Rattle.pg_script.specs.Forms.{op_words, spelling, IsShort, HasShortValue, Ha
 use Rattle.pg_script.specs.Reading.{statement_of}
 use Rattle.pg_script.specs.Scripts.{Operations, has_word, is_inside, IsWithin}
 use Rattle.pg_script.specs.ScriptFaults.{nothing, is_in_place, is_bounded, has_small_value, op_of, with_statement, placed_at, ends, is_done}
-use Rattle.pg_script.specs.Texts.{judge, judged, read_on, read_lines, reading}
+use Rattle.pg_script.specs.Texts.{judge, judged, read_lines, reading}
 use Rattle.pg_script.specs.Printing.{form_of, op_line_of, lines_in, printed}
 use Rattle.pg_script.proofs.Decimals.{decimal_word}
-use Rattle.pg_script.proofs.Judging.{is_over}
+use Rattle.pg_script.proofs.Judging.{is_over, read_on}
 use Rattle.pg_script.proofs.Spellings.{spelled}
 
 -- a digit is neither a space nor a newline

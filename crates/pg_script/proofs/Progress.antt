@@ -4,17 +4,21 @@ use Rattle.std.specs.Prelude.{◌==◌}
 use Rattle.std.specs.Option.{option_map_or}
 use Rattle.std.proofs.lemmas.Bool.{eqb-true}
 use Rattle.pg_perm.specs.declared.fault.Fault.{Fault}
+use Rattle.pg_perm.specs.declared.fault.Rule.{Rule}
 use Rattle.pg_perm.specs.declared.fault.Rule.TheVariants.{C4, C5}
 use Rattle.pg_lines.specs.Lines.{words_of, lines_of, first_line, line_of_cut, cut_at}
 use Rattle.pg_lines.proofs.Steps.{lines_of-first, lines_of-none, length-rest}
-use Rattle.pg_script.specs.declared.error.LineError.{LineError}
-use Rattle.pg_script.specs.declared.error.LineError.TheVariants as error
+use Rattle.pg_faults.specs.declared.error.LineError.{LineError}
+use Rattle.pg_faults.specs.declared.error.LineError.TheVariants as error
+use Rattle.pg_faults.specs.Answers.{Judges}
+use Rattle.pg_faults.specs.LineRules.{finished}
 use Rattle.pg_script.specs.declared.statement.Statement.{Statement}
-use Rattle.pg_script.specs.Answers.{Judges, Gives, script_error}
+use Rattle.pg_script.specs.Answers.{Gives, script_error}
 use Rattle.pg_script.specs.Reading.{statement_of}
 use Rattle.pg_script.specs.Scripts.{Operations}
 use Rattle.pg_script.specs.ScriptFaults.{is_in_place, placed_at, statement_at, ends, is_done}
-use Rattle.pg_script.specs.Texts.{judge, judged, finished, read_lines, read_on, reading}
+use Rattle.pg_script.specs.Texts.{judge, judged, read_lines, reading}
+use Rattle.pg_script.proofs.Judging.{read_on}
 
 -- the lines before were read, and rest is behind them
 pub record IsReadSoFar (bytes rest : List ℕ) (before : ℕ) (above : Operations) : Type 0 where
@@ -43,7 +47,7 @@ by_line : (bytes rest line more : List ℕ) (before : ℕ) (above : Operations) 
 by_line bytes rest line more before above so_far h = so_far.answers ∙ ap (read_lines above (before + 1)) (lines_of-first rest line more h)
 
 -- a line that can't be taken in
-pub error_at : (bytes rest line more : List ℕ) (before : ℕ) (above : Operations) (o : Option Statement) (e : LineError) → IsReadSoFar bytes rest before above
+pub error_at : (bytes rest line more : List ℕ) (before : ℕ) (above : Operations) (o : Option Statement) (e : LineError Rule) → IsReadSoFar bytes rest before above
     → IsNext rest line more (before + 1) o → Judges {A = Operations} (Err e) (judged above o)
     → Gives {A = Operations} (Err (script_error (before + 1) e)) (reading bytes)
 error_at bytes rest line more before above o (error.Breaks R) so_far next broken =
@@ -66,7 +70,7 @@ by_taken bytes rest line more before above below o so_far next taken =
     (ended_placed above below (before + 1) (statement_of (words_of line)) judges ∙ ap (λ p. option_map_or is_done p false) (sym next.says))
 
 -- no bytes have no line
-finished_empty : (n : ℕ) (below : Operations) (more : List ℕ) → (length more == 0) ≡ true → finished n below (lines_of more) ≡ Ok below
+finished_empty : (n : ℕ) (below : Operations) (more : List ℕ) → (length more == 0) ≡ true → finished (Some C5) n below (lines_of more) ≡ Ok below
 finished_empty n below [] none = refl
 finished_empty n below (b ∷ bs) none = absurd (omega (arith, eqb-true (length (b ∷ bs)) 0 none))
 
@@ -88,9 +92,9 @@ some_line b bs = at (cut_at 10 (b ∷ bs)) refl
     at (Some p) e = (p.0, p.1, lines_of-first (b ∷ bs) p.0 p.1 (sym (ap (line_of_cut (b ∷ bs)) e)))
 
 finished_past : (n : ℕ) (below : Operations) (more : List ℕ) → (length more == 0) ≡ false
-    → finished n below (lines_of more) ≡ Err (record { line = n + 1; rule = C5 })
+    → finished (Some C5) n below (lines_of more) ≡ Err (record { line = n + 1; rule = C5 })
 finished_past n below [] some = absurd cc
-finished_past n below (b ∷ bs) some = ap (finished n below) (some_line b bs).2
+finished_past n below (b ∷ bs) some = ap (finished (Some C5) n below) (some_line b bs).2
 
 -- where something is behind `done`
 pub past_at : (bytes rest line more : List ℕ) (before : ℕ) (above below : Operations) (o : Option Statement) → IsReadSoFar bytes rest before above

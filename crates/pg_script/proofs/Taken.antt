@@ -17,11 +17,11 @@ use Rattle.pg_script.specs.Forms.{spelling}
 use Rattle.pg_script.specs.Reading.{statement_of}
 use Rattle.pg_script.specs.Scripts.{Operations, has_word, is_inside, IsWithin}
 use Rattle.pg_script.specs.ScriptFaults.{nothing, is_in_place, is_bounded, has_small_value, op_of, with_statement, placed_at, statement_at, ends, is_done}
-use Rattle.pg_script.specs.Texts.{judge, read_on, read_lines, reading}
+use Rattle.pg_script.specs.Texts.{judge, read_lines, reading}
 use Rattle.pg_script.specs.Printing.{form_of, op_line_of, lines_in}
-use Rattle.pg_script.proofs.Options.{same_ok}
+use Rattle.pg_faults.proofs.LineFaults.{same_ok}
 use Rattle.pg_script.proofs.Spellings.{found}
-use Rattle.pg_script.proofs.Judging.{is_over, judged_taken}
+use Rattle.pg_script.proofs.Judging.{is_over, judged_taken, read_on}
 
 -- a line that is taken is in a form for its place
 pub record IsLine (above more : Operations) (n : ℕ) (line : List ℕ) (s : Statement) : Type 0 where

@@ -2,15 +2,10 @@
 use Rattle.std.specs.Prelude.{ℕ, ◌≡◌, Result, Ok, Err}
 use Rattle.pg_perm.specs.declared.fault.Fault.{Fault}
 use Rattle.pg_perm.specs.declared.fault.Rule.{Rule}
-use Rattle.pg_script.specs.declared.error.LineError.{LineError}
-use Rattle.pg_script.specs.declared.error.LineError.TheVariants as line
+use Rattle.pg_faults.specs.declared.error.LineError.{LineError}
+use Rattle.pg_faults.specs.declared.error.LineError.TheVariants as line
 use Rattle.pg_script.specs.declared.error.ScriptError.{ScriptError}
 use Rattle.pg_script.specs.declared.error.ScriptError.TheVariants as script
-
-abbrev pub Judges : {A : Type 0} → Result A LineError → Result A Rule → Type 0
-Judges (Ok x) wanted = wanted ≡ Ok x
-Judges (Err (line.Breaks R)) wanted = wanted ≡ Err R
-Judges (Err line.Memory) wanted = Unit {0}
 
 abbrev pub Gives : {A : Type 0} → Result A ScriptError → Result A Fault → Type 0
 Gives (Ok x) wanted = wanted ≡ Ok x
@@ -18,6 +13,6 @@ Gives (Err (script.Fault f)) wanted = wanted ≡ Err f
 Gives (Err script.Memory) wanted = Unit {0}
 
 -- the error of a script whose line n has this error
-abbrev pub script_error : ℕ → LineError → ScriptError
+abbrev pub script_error : ℕ → LineError Rule → ScriptError
 script_error n (line.Breaks R) = script.Fault (record { line = n; rule = R })
 script_error n line.Memory = script.Memory

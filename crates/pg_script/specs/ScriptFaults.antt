@@ -1,13 +1,14 @@
 -- The rules of a script, and its first fault.
-use Rattle.std.specs.Prelude.{ℕ, ◌≡◌, ◌≢◌, ◌+◌, ◌⊎◌, Bool, true, false, not, ◌&&◌, ◌==◌, nat_lt, nat_le, List, [], ◌∷◌, ◌++◌, length, Option, Some, None, IsTrue, if◌then◌else◌}
+use Rattle.std.specs.Prelude.{ℕ, Bool, true, false, not, ◌&&◌, ◌==◌, nat_lt, nat_le, List, [], ◌∷◌, ◌++◌, length, Option, Some, None, if◌then◌else◌}
 use Rattle.std.specs.Option.{option_map_or}
 use Rattle.pg_perm.specs.declared.fault.Fault.{Fault}
 use Rattle.pg_perm.specs.declared.fault.Rule.{Rule}
 use Rattle.pg_perm.specs.declared.fault.Rule.TheVariants.{C1, C2, C3, C4, C5}
 use Rattle.pg_perm.specs.declared.kinds.Op.{Op as Operation}
 use Rattle.pg_perm.specs.declared.kinds.Op.TheVariants as op
-use Rattle.pg_perm.specs.Rules.{IsNoLater}
 use Rattle.pg_lines.specs.Lines.{lines_of, words_of}
+use Rattle.pg_faults.specs.FirstFaults.{IsFirstFault}
+use Rattle.pg_faults.specs.LineRules.{LineRules, BreaksIn}
 use Rattle.pg_script.specs.declared.statement.OpForm.{OpForm}
 use Rattle.pg_script.specs.declared.statement.OpForm.TheVariants.{Load, Store, Evict}
 use Rattle.pg_script.specs.declared.statement.Statement.{Statement}
@@ -89,19 +90,14 @@ is_done Done = true
 abbrev pub ends : List ℕ → Bool
 ends line = option_map_or is_done (statement_of (words_of line)) false
 
--- line L breaks rule R, where these lines are numbered from n on and stand below others. No line behind the first `done` is judged by C1 to C3;
--- C4 is broken behind the last line where there is no `done`, and C5 behind `done` where there is anything
-abbrev pub BreaksIn : Operations → ℕ → List (List ℕ) → ℕ → Rule → Type 0
-BreaksIn above n [] L R = (L ≡ n) × (R ≡ C4)
-BreaksIn above n (line ∷ lines) L R = ((L ≡ n) × IsTrue (breaks above n line R))
-    ⊎ ((IsTrue (ends line) × (lines ≢ []) × (L ≡ n + 1) × (R ≡ C5))
-    ⊎ (IsTrue (not (ends line)) × BreaksIn (after above n line) (n + 1) lines L R))
+-- the rules of the lines of a script. C4 is broken after the last line where there is no `done`, and C5 after `done` where there is anything
+abbrev pub script_rules : LineRules Operations
+script_rules = record { breaks = breaks; after = after; ends = ends; missing = C4; past = Some C5 }
 
 -- line L of the script breaks rule R
 abbrev pub Breaks : List ℕ → ℕ → Rule → Type 0
-Breaks bytes L R = BreaksIn nothing 1 (lines_of bytes) L R
+Breaks bytes L R = BreaksIn script_rules nothing 1 (lines_of bytes) L R
 
 -- the first fault of a script
-pub record IsScriptFault (bytes : List ℕ) (f : Fault) : Type 0 where
-  pub broken : Breaks bytes f.line f.rule
-  pub least : (L : ℕ) (R : Rule) → Breaks bytes L R → IsNoLater f L R
+abbrev pub IsScriptFault : List ℕ → Fault → Type 0
+IsScriptFault bytes f = IsFirstFault (Breaks bytes) f

@@ -1,6 +1,7 @@
 ghost use Rattle.std.specs.Prelude.{◌≡◌};
 ghost use Rattle.pg_script.specs.declared.error.ScriptError.TheVariants.{Memory};
 
+use pg_faults::LineError;
 use pg_perm::{Fault, Rule};
 use std::alloc::AllocError;
 use thiserror::Error;
@@ -23,34 +24,14 @@ impl From<AllocError> for ScriptError {
     }
 }
 
-/// Why a line could not be taken in.
-#[derive(Debug, Drop, Error)]
-pub enum LineError {
-    /// The first rule that it breaks.
-    #[error("it breaks {}", .0.name())]
-    Breaks(Rule),
-    #[error("out of memory")]
-    Memory,
-}
-
-impl From<AllocError> for LineError {
-    ghost use Rattle.pg_script.specs.declared.error.LineError.TheVariants as line;
-
-    ghost from_gives = { λ _ e. e ≡ line.Memory };
-
-    fn from(_error: AllocError) -> LineError {
-        LineError::Memory
-    }
-}
-
-impl LineError {
+impl ScriptError {
     ghost use Rattle.pg_script.specs.Answers.{script_error};
 
-    /// The same of a script, in which the line has this number.
-    pub fn at(self, line: u32) -> ScriptError
-        ensures { result ≡ script_error line self }
+    /// The error of a script whose line of this number could not be taken in.
+    pub fn at(line: u32, error: LineError<Rule>) -> ScriptError
+        ensures { result ≡ script_error line error }
     {
-        match self {
+        match error {
             LineError::Breaks(rule) => ScriptError::Fault(Fault { line, rule }),
             LineError::Memory => ScriptError::Memory,
         }

@@ -1,12 +1,12 @@
 ghost use Rattle.std.specs.Prelude.{◌≡◌, IfOk, IsTrue};
-ghost use Rattle.pg_script.specs.Answers.{Judges};
+ghost use Rattle.pg_faults.specs.Answers.{Judges};
 ghost use Rattle.pg_script.specs.Scripts.{IsWithin};
 ghost use Rattle.pg_script.specs.ScriptFaults as faults;
 ghost use Rattle.pg_script.specs.Texts.{judged};
 
-use crate::error::LineError;
 use crate::script::{Script, ScriptOp, ScriptOps};
 use crate::statement::{OpForm, Statement};
+use pg_faults::LineError;
 use pg_perm::{Op, Rule, Sequence};
 use std::alloc::{AllocError, Global};
 use std::marker::Model;
@@ -98,7 +98,7 @@ impl Reader {
     }
 
     /// Takes in what the next line says, or tells which of the rules C1 to C3 it breaks first.
-    pub fn with_line(self, statement: Option<Statement>) -> Result<Reader, LineError>
+    pub fn with_line(self, statement: Option<Statement>) -> Result<Reader, LineError<Rule>>
         ensures { Judges result (judged self statement) }
     {
         let Some(statement) = statement else {

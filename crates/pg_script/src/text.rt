@@ -44,7 +44,7 @@ fn read_lines(alloc: Global, bytes: &[u8]) -> Result<Script, ScriptError>
         let statement = statement_at(number, line);
         match reader.with_line(statement) {
             Ok(more) => reader = more,
-            Err(error) => return Err(error.at(number)),
+            Err(error) => return Err(ScriptError::at(number, error)),
         }
         if is_done(statement) {
             if behind.is_empty() {

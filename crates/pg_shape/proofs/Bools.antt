@@ -11,6 +11,11 @@ three_and true true c h = (refl, refl, h)
 three_and true false c h = absurd cc
 three_and false b c h = absurd cc
 
+pub three_both : (a b c : Bool) → a ≡ true → b ≡ true → c ≡ true → (a && b && c) ≡ true
+three_both true true c p q r = r
+three_both true false c p q r = absurd cc
+three_both false b c p q r = absurd cc
+
 -- of two that aren't both so, the other isn't where the one is
 pub and_not : (a b : Bool) → (a && b) ≡ false → a ≡ true → b ≡ false
 and_not true b h e = h
@@ -21,10 +26,6 @@ middle_not true true true h e g = absurd cc
 middle_not true true false h e g = absurd cc
 middle_not true false c h e g = refl
 middle_not false b c h e g = absurd cc
-
-pub not_false : (b : Bool) → not b ≡ false → b ≡ true
-not_false true h = refl
-not_false false h = absurd cc
 
 pub true_not : (b : Bool) → not b ≡ true → b ≡ false
 true_not true h = absurd cc
@@ -37,11 +38,6 @@ and_both false b h g = absurd cc
 pub one_of : (a b : Bool) → (a || b) ≡ true → (a ≡ true) ⊎ (b ≡ true)
 one_of true b h = inl refl
 one_of false b h = inr h
-
--- where the one isn't so, the other is
-pub other_of : (a b : Bool) → (a || b) ≡ true → a ≡ false → b ≡ true
-other_of true b h e = absurd cc
-other_of false b h e = h
 
 -- "where a, b" is kept and a is so
 pub where_so : (a b : Bool) → (not a || b) ≡ true → a ≡ true → b ≡ true

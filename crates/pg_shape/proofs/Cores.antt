@@ -3,9 +3,8 @@ use Rattle.std.proofs.Common.{◌≡◌, ℕ, zero, suc, ◌<◌, ◌≤◌, ◌
 use Rattle.std.specs.Prelude.{slice_get, find, is_none, is_some, ◌==◌}
 use Rattle.std.specs.Option.{option_map, option_map_or}
 use Rattle.std.specs.List.{list_any, list_all}
-use Rattle.std.proofs.lemmas.Bool.{or_parts, eqb-true, cases_lt}
+use Rattle.std.proofs.lemmas.Bool.{or_parts, eqb-true, cases_lt, and_parts, not-false, or_cases, false_from_ne_true}
 use Rattle.std.proofs.lemmas.Option.{same_Some, slice_get_within}
-use Rattle.pg_perm.proofs.Booleans.{both}
 use Rattle.pg_perm.specs.declared.kinds.Role.{Role}
 use Rattle.pg_perm.specs.declared.kinds.Role.TheVariants as role
 use Rattle.pg_perm.specs.declared.kinds.Perm.{Perm}
@@ -34,14 +33,15 @@ use Rattle.pg_perm.specs.Classes.{is_request, is_forward, is_reply}
 use Rattle.pg_perm.specs.Drafts.{has_cache, has_dir, has_message, has_core_form, has_core, has_take, has_row_form, has_row, IsWellFormed}
 use Rattle.pg_terms.specs.Terms.{is_out, is_shared, is_owner, is_none_perm, is_read_perm, is_write_perm, same_event, is, is_other, is_write_owner, is_read_owner, cache_is, out, shared, request_of, lists_state, lists, core_row}
 use Rattle.pg_terms.specs.Due.{same_reply, is_row_for, is_row_from, is_answer, row_brings, is_load_reply, is_store_reply}
+use Rattle.pg_terms.proofs.Same.{event_equal, reply_equal}
 use Rattle.pg_shape.specs.TextRules.{lacks_requests}
 use Rattle.pg_shape.specs.CacheRules.{has_wrong_perm}
 use Rattle.pg_shape.specs.CoreRules.{is_hit, leaves_out, asks_needlessly, hits_without_perm, moves_at_load, class_of, asks_otherwise, is_asked, names, names_twice, names_another, misses, misses_below, misses_reply, names_wrongly, has_wrong_replies, is_no_load_final, is_dirty_writer, stays, moves_at_store, is_no_store_final, ends_differ, ends_wrongly, breaks_s7, parts, asks_class, leaves_by_another, leaves_wrongly, is_from_cache, is_unclean, ends_unclean}
 use Rattle.pg_terms.specs.Rows.{allows, store_next, pair_under, final_under}
 use Rattle.pg_shape.specs.ShapeFaults.{HasShape}
 use Rattle.pg_shape.specs.Shaped.{HasCores}
-use Rattle.pg_shape.proofs.Bools.{three_not, three_and, and_not, not_false, one_of}
-use Rattle.pg_shape.proofs.Searches.{all_at, not_both, not_true, any_get, any_not, find_get, position_get, map_or_get, some_of}
+use Rattle.pg_shape.proofs.Bools.{three_not, three_and, and_not}
+use Rattle.pg_shape.proofs.Searches.{all_at, not_both, any_get, any_not, find_get, position_get, map_or_get, some_of}
 use Rattle.pg_shape.proofs.Shaped.{text_keeps, cache_keeps, core_keeps, has_core_row, is_one}
 
 -- Tests, lists and options
@@ -92,7 +92,7 @@ all_formed d w =
 pub core_formed : (d : Draft) → IsWellFormed d → (k : ℕ) (x : CoreLine) → slice_get d.cores k ≡ Some x → has_core_form d x.event x.form ≡ true
 core_formed d w k x e =
     let formed : has_core d x ≡ true = all_at (has_core d) d.cores k x (all_formed d w).0 e in
-    (both (has_cache d x.state) (has_core_form d x.event x.form) formed).1
+    (and_parts (has_cache d x.state) (has_core_form d x.event x.form) formed).1
 
 -- the reply of a take line is one
 take_formed : (d : Draft) → IsWellFormed d → (k : ℕ) (t : TakeLine) → slice_get d.takes k ≡ Some t
@@ -115,7 +115,7 @@ reply_below d m h = let (x, e, p) = map_or_get (λ x. is_reply x.class) (slice_g
 -- what a row line brings is a message
 brought_below : (d : Draft) → IsWellFormed d → (n m : ℕ) (f : RowForm) → has_row_form d f ≡ true → row_brings d n f m ≡ true → m < length d.messages
 brought_below d w n m (form.Ask request who (action.Reply k)) h b =
-    let parts = both (has_message is_request d request) (has_message is_reply d k) h in
+    let parts = and_parts (has_message is_request d request) (has_message is_reply d k) h in
     reply_below d m (subst (λ i. has_message is_reply d i ≡ true) (eqb-true k m b) parts.1)
 brought_below d w n m (form.Ask request who (action.Forward f)) h b =
     let (k, t, e, answers) = any_get (is_answer d n f m) d.takes b in
@@ -129,13 +129,13 @@ brought_below d w n m (form.Evict who left) h b = absurd cc
 load_reply_below : (d : Draft) → IsWellFormed d → (m : ℕ) → is_load_reply d m ≡ true → m < length d.messages
 load_reply_below d w m h =
     let (k, r, e, for) = any_get (λ r. is_row_for d Read r.form && row_brings d r.dir r.form m) d.rows h in
-    brought_below d w r.dir m r.form (row_formed d w k r e) (both (is_row_for d Read r.form) _ for).1
+    brought_below d w r.dir m r.form (row_formed d w k r e) (and_parts (is_row_for d Read r.form) _ for).1
 
 -- a reply that a store may get is a message
 store_reply_below : (d : Draft) → IsWellFormed d → (m : ℕ) (who : Who) → is_store_reply d who m ≡ true → m < length d.messages
 store_reply_below d w m who h =
     let (k, r, e, from) = any_get (λ r. is_row_from d Write who r.form && row_brings d r.dir r.form m) d.rows h in
-    brought_below d w r.dir m r.form (row_formed d w k r e) (both (is_row_from d Write who r.form) _ from).1
+    brought_below d w r.dir m r.form (row_formed d w k r e) (and_parts (is_row_from d Write who r.form) _ from).1
 
 -- a reply that a core may get is a message
 asked_below : (d : Draft) → IsWellFormed d → (r : Role) (event : Event) (m : ℕ) → is_asked d r event (reply.Reply m) ≡ true → m < length d.messages
@@ -169,14 +169,8 @@ pub core_row_get : (d : Draft) (s : ℕ) (event : Event) (x : CoreLine) → core
     → (k : ℕ) × (slice_get d.cores k ≡ Some x) × (x.state ≡ s) × (x.event ≡ event)
 core_row_get d s event x e =
     let (k, g, passes) = find_get (λ c. (c.state == s) && same_event c.event event) d.cores x e in
-    let same = both (x.state == s) (same_event x.event event) passes in
+    let same = and_parts (x.state == s) (same_event x.event event) passes in
     (k, g, eqb-true x.state s same.0, event_equal x.event event same.1)
-  where
-    event_equal : (a b : Event) → same_event a b ≡ true → a ≡ b
-    event_equal Load Load h = refl
-    event_equal Store Store h = refl
-    event_equal Evict Evict h = refl
-    event_equal _ _ h = absurd cc
 
 -- a core line breaks no rule
 core_line_keeps : (d : Draft) → IsWellFormed d → HasShape d → (k : ℕ) (x : CoreLine) → slice_get d.cores k ≡ Some x → Keeps d x.state x.event x.form
@@ -216,7 +210,7 @@ asks_by d s m event c (Hit next) keeps stays_in e lacks r =
     absurd (not_both true refl (and_not (cache_is (λ x. not (allows event x)) d s) true keeps.asks lacking))
 asks_by d s m event c (Ask request pairs) keeps stays_in e lacks r =
     let same : is_other (Some m) request ≡ false = subst (λ o. is_other o request ≡ false) r keeps.asked in
-    (request, pairs, refl, r ∙ ap Some (eqb-true m request (not_false (m == request) same)))
+    (request, pairs, refl, r ∙ ap Some (eqb-true m request (not-false (m == request) same)))
 asks_by d s m Load c (Leave request) keeps stays_in e lacks r = absurd (not_both false keeps.formed refl)
 asks_by d s m Store c (Leave request) keeps stays_in e lacks r = absurd (not_both false keeps.formed refl)
 asks_by d s m Evict c (Leave request) keeps stays_in e lacks r = absurd cc
@@ -254,14 +248,14 @@ named_below d r event pairs (suc n) m h lt asked =
     at (inr above) last behind =
         let same : n ≡ m = omega (arith, lt, above) in
         let here : misses d r event pairs (reply.Reply m) ≡ false = subst (λ i. misses d r event pairs (reply.Reply i) ≡ false) same last in
-        not_false (names pairs (reply.Reply m)) (and_not (is_asked d r event (reply.Reply m)) (not (names pairs (reply.Reply m))) here asked)
+        not-false (names pairs (reply.Reply m)) (and_not (is_asked d r event (reply.Reply m)) (not (names pairs (reply.Reply m))) here asked)
 
 -- each reply that a core may get is named
 named : (d : Draft) → IsWellFormed d → (r : Role) (event : Event) (pairs : List Pair) (name : ReplyName) → misses_reply d r event pairs ≡ false
     → is_asked d r event name ≡ true → names pairs name ≡ true
 named d w r event pairs reply.AckCount h asked =
     let none = or_parts (misses d r event pairs reply.AckCount) (misses_below d r event pairs (length d.messages)) h in
-    not_false (names pairs reply.AckCount) (and_not (is_asked d r event reply.AckCount) (not (names pairs reply.AckCount)) none.0 asked)
+    not-false (names pairs reply.AckCount) (and_not (is_asked d r event reply.AckCount) (not (names pairs reply.AckCount)) none.0 asked)
 named d w r event pairs (reply.Reply m) h asked =
     let none = or_parts (misses d r event pairs reply.AckCount) (misses_below d r event pairs (length d.messages)) h in
     named_below d r event pairs (length d.messages) m none.1 (asked_below d w r event m asked) asked
@@ -307,7 +301,7 @@ load_ends d s t name (Ask request pairs) keeps e =
     let (k, p, g, same, fin) = final_get name pairs t e in
     let right : is_no_load_final d p.fin ≡ false = any_not (λ p. is_no_load_final d p.fin) pairs k p keeps.ends g in
     let here : is_no_load_final d t ≡ false = subst (λ n. is_no_load_final d n ≡ false) fin right in
-    at (one_of (is (shared d) t) (cache_is (λ c. is_owner c.role) d t) (not_false (is (shared d) t || cache_is (λ c. is_owner c.role) d t) here))
+    at (or_cases (is (shared d) t) (cache_is (λ c. is_owner c.role) d t) (not-false (is (shared d) t || cache_is (λ c. is_owner c.role) d t) here))
   where
     at : (is (shared d) t ≡ true) ⊎ (cache_is (λ c. is_owner c.role) d t ≡ true) → (shared d ≡ Some t) ⊎ (cache_is (λ c. is_owner c.role) d t ≡ true)
     at (inl h) = inl (is_one (shared d) t h)
@@ -324,14 +318,14 @@ store_ends d s t name (Ask request pairs) keeps e =
     let right : is_no_store_final d p.fin ≡ false = any_not (λ p. is_no_store_final d p.fin) pairs k p none.0 g in
     let here : is_no_store_final d t ≡ false = subst (λ n. is_no_store_final d n ≡ false) fin right in
     let (writes, moves) = or_parts (not (cache_is is_dirty_writer d t)) (moves_at_store d t) here in (
-      not_false (cache_is is_dirty_writer d t) writes,
-      λ y f. not_false (stays t y.form) (sym (ap (λ (o : Option CoreLine). option_map_or (λ c. not (stays t c.form)) o false) f) ∙ moves),
+      not-false (cache_is is_dirty_writer d t) writes,
+      λ y f. not-false (stays t y.form) (sym (ap (λ (o : Option CoreLine). option_map_or (λ c. not (stays t c.form)) o false) f) ∙ moves),
     )
 
 -- where no two final states differ, each is the first
 ends_first : (q : Pair) (pairs : List Pair) (k : ℕ) (p : Pair) → ends_differ (q ∷ pairs) ≡ false → slice_get (q ∷ pairs) k ≡ Some p → p.fin ≡ q.fin
 ends_first q pairs zero p h e = ap (λ (p : Pair). p.fin) (sym (same_Some q p e))
-ends_first q pairs (suc k) p h e = eqb-true p.fin q.fin (not_false (p.fin == q.fin) (any_not (λ p. not (p.fin == q.fin)) pairs k p h e))
+ends_first q pairs (suc k) p h e = eqb-true p.fin q.fin (not-false (p.fin == q.fin) (any_not (λ p. not (p.fin == q.fin)) pairs k p h e))
 
 -- two final states are one
 one_end : (pairs : List Pair) (j k : ℕ) (p q : Pair) → ends_differ pairs ≡ false
@@ -346,12 +340,6 @@ store_ends_once d s j k request pairs p q form keeps asks e f =
     let right : ends_wrongly d Store (Ask request pairs) ≡ false = subst (λ (f : CoreForm). ends_wrongly d Store f ≡ false) asks keeps.ends in
     let none = or_parts (list_any (λ p. is_no_store_final d p.fin) pairs) (ends_differ pairs) right in
     one_end pairs j k p q none.1 e f
-
--- names of the same reply are the same
-pub reply_equal : (a b : ReplyName) → same_reply a b ≡ true → a ≡ b
-reply_equal reply.AckCount reply.AckCount h = refl
-reply_equal (reply.Reply m) (reply.Reply n) h = ap reply.Reply (eqb-true m n h)
-reply_equal _ _ h = absurd cc
 
 -- no cache sends a reply under which a load ends clean
 load_ends_clean : (d : Draft) (s t : ℕ) (name : ReplyName) (form : CoreForm) → Keeps d s Load form → final_under name form ≡ Some t
@@ -371,7 +359,7 @@ load_ends_clean d s t name (Ask request pairs) keeps e clean =
 is_done : (d : Draft) (s : ℕ) (event : Event) (c : CacheLine) (form : CoreForm) → Keeps d s event form → slice_get d.caches s ≡ Some c
     → allows event c ≡ true → is_hit form ≡ true
 is_done d s event c form keeps e may =
-    not_false (is_hit form) (and_not (cache_is (allows event) d s) (not (is_hit form)) keeps.done (at_cache (allows event) d s c e ∙ may))
+    not-false (is_hit form) (and_not (cache_is (allows event) d s) (not (is_hit form)) keeps.done (at_cache (allows event) d s c e ∙ may))
 
 -- a load hit stays
 load_hit_stays : (d : Draft) (s : ℕ) (form : CoreForm) → Keeps d s Load form → is_hit form ≡ true → form ≡ Hit None
@@ -380,7 +368,7 @@ load_hit_stays d s (Hit (Some next)) keeps h = absurd (not_both true refl keeps.
 load_hit_stays d s (Ask request pairs) keeps h = absurd cc
 load_hit_stays d s (Leave request) keeps h = absurd cc
 
--- of two that a directory state doesn't tell apart, it lists both or none
+-- of two that a directory state doesn't tell apart, it lists and_parts or none
 not_parted : (a b : Bool) → ((a && not b) || (not a && b)) ≡ false → b ≡ a
 not_parted true true h = refl
 not_parted true false h = absurd cc
@@ -402,7 +390,7 @@ store_hit_ends : (d : Draft) (s t : ℕ) (form : CoreForm) → Keeps d s Store f
 store_hit_ends d s t form keeps writer e =
     let here : hits_to d s t ≡ false = subst (λ o. option_map_or (hits_to d s) o false ≡ false) e keeps.hits in
     let none = or_parts (not (cache_is is_dirty_writer d t)) (list_any (parts s t) d.dirs) (and_not (cache_is is_write_owner d s) _ here writer) in
-    (not_false (cache_is is_dirty_writer d t) none.0, same_lists d s t none.1)
+    (not-false (cache_is is_dirty_writer d t) none.0, same_lists d s t none.1)
 
 -- an evict gives the copy up
 evict_leaves : (d : Draft) (s : ℕ) (form : CoreForm) → Keeps d s Evict form → (m : ℕ) × (form ≡ Leave m)
@@ -457,7 +445,7 @@ out_line d h s e =
     let kept : has_wrong_perm c ≡ false = cache_keeps d h s c g S1 in
     let none = three_not (is_out c.role && not (is_none_perm c.perm)) (is_shared c.role && not (is_read_perm c.perm))
     (is_owner c.role && is_none_perm c.perm) kept in
-    (c, g, role_out c.role is_so, not_false (is_none_perm c.perm) (and_not (is_out c.role) (not (is_none_perm c.perm)) none.0 is_so))
+    (c, g, role_out c.role is_so, not-false (is_none_perm c.perm) (and_not (is_out c.role) (not (is_none_perm c.perm)) none.0 is_so))
 
 -- the shared state is shared, and may read
 shared_line : (d : Draft) → HasShape d → (s : ℕ) → shared d ≡ Some s
@@ -467,7 +455,7 @@ shared_line d h s e =
     let kept : has_wrong_perm c ≡ false = cache_keeps d h s c g S1 in
     let none = three_not (is_out c.role && not (is_none_perm c.perm)) (is_shared c.role && not (is_read_perm c.perm))
     (is_owner c.role && is_none_perm c.perm) kept in
-    (c, g, role_shared c.role is_so, not_false (is_read_perm c.perm) (and_not (is_shared c.role) (not (is_read_perm c.perm)) none.1 is_so))
+    (c, g, role_shared c.role is_so, not-false (is_read_perm c.perm) (and_not (is_shared c.role) (not (is_read_perm c.perm)) none.1 is_so))
 
 -- The facts
 
@@ -475,7 +463,7 @@ shared_line d h s e =
 row : (d : Draft) → HasShape d → (s : ℕ) (event : Event) (c : CacheLine) → slice_get d.caches s ≡ Some c → (event ≡ Evict → is_out c.role ≡ false)
     → (x : CoreLine) × (core_row d s event ≡ Some x)
 row d h s event c e leaves =
-    has_core_row d h s event (slice_get_within d.caches s c e) (λ at. not_true (is (out d) s) (λ out. no_out (leaves at) out))
+    has_core_row d h s event (slice_get_within d.caches s c e) (λ at. false_from_ne_true (is (out d) s) (λ out. no_out (leaves at) out))
   where
     no_out : is_out c.role ≡ false → is (out d) s ≡ true → ⊥
     no_out other at_out =
@@ -513,7 +501,7 @@ store_count : (d : Draft) → IsWellFormed d → HasShape d → (s : ℕ) (x : C
     → (t : ℕ) × (final_under reply.AckCount x.form ≡ Some t)
 store_count d w h s x reader e =
     let (c, g, owns) = map_or_get is_read_owner (slice_get d.caches s) reader in
-    let (is_so, reads) = both (is_owner c.role) (is_read_perm c.perm) owns in
+    let (is_so, reads) = and_parts (is_owner c.role) (is_read_perm c.perm) owns in
     let asks_it : is_asked d c.role Store reply.AckCount ≡ true =
     subst (λ (r : Role). is_asked d r Store reply.AckCount ≡ true) (sym (role_owner c.role is_so)) refl in
     asked_final d w h s Store c x.form reply.AckCount (core_row_keeps d w h s Store x e) refl g (read_writes_not c.perm reads) asks_it
@@ -524,7 +512,7 @@ evict_shared : (d : Draft) → IsWellFormed d → HasShape d → (s m : ℕ) (x 
 evict_shared d w h s m x at_shared e leaves =
     let (c, g, is_so, reads) = shared_line d h s at_shared in
     let right = leaves_right d s m Evict c x.form (core_row_keeps d w h s Evict x e) g leaves in
-    not_false (asks_class Clean d m) (subst (λ (r : Role). leaves_by_another d r c.clean m ≡ false) is_so right)
+    not-false (asks_class Clean d m) (subst (λ (r : Role). leaves_by_another d r c.clean m ≡ false) is_so right)
 
 -- an owner that isn't clean is left by one of class dirty
 evict_dirty : (d : Draft) → IsWellFormed d → HasShape d → (s m : ℕ) (x : CoreLine) (c : CacheLine) → slice_get d.caches s ≡ Some c
@@ -534,7 +522,7 @@ evict_dirty d w h s m x c g owns unclean e leaves =
     let owner : leaves_by_another d role.Owner c.clean m ≡ false =
     subst (λ (r : Role). leaves_by_another d r c.clean m ≡ false) (role_owner c.role owns) right in
     let here : leaves_by_another d role.Owner false m ≡ false = subst (λ (b : Bool). leaves_by_another d role.Owner b m ≡ false) unclean owner in
-    or_nothing (asks_class Dirty d m) (not_false (asks_class Dirty d m || false) here)
+    or_nothing (asks_class Dirty d m) (not-false (asks_class Dirty d m || false) here)
   where
     or_nothing : (b : Bool) → (b || false) ≡ true → b ≡ true
     or_nothing true h = refl

@@ -3,9 +3,8 @@ use Rattle.std.proofs.Common.{◌≡◌, ℕ, ◌<◌, ◌⊎◌, Bool, true, fa
 use Rattle.std.specs.Prelude.{slice_get, ◌==◌}
 use Rattle.std.specs.Option.{option_map_or, option_and_then}
 use Rattle.std.specs.List.{list_any}
-use Rattle.std.proofs.lemmas.Bool.{eqb-true, eq-eqb}
+use Rattle.std.proofs.lemmas.Bool.{eqb-true, eq-eqb, and_parts, and_from}
 use Rattle.std.proofs.lemmas.Option.{slice_get_within}
-use Rattle.pg_perm.proofs.Booleans.{both}
 use Rattle.pg_perm.specs.declared.kinds.Event.{Event}
 use Rattle.pg_perm.specs.declared.kinds.Event.TheVariants.{Load, Store, Evict}
 use Rattle.pg_perm.specs.declared.kinds.DirKind.{DirKind}
@@ -26,13 +25,14 @@ use Rattle.pg_perm.specs.declared.draft.Action.TheVariants as action
 use Rattle.pg_terms.specs.declared.cases.DirCase.TheVariants as case
 use Rattle.pg_terms.specs.Terms.{is, is_out, is_shared, is_read_owner, cache_is, out, shared, request_of, same_who, lists, core_row, take_row, dir_row}
 use Rattle.pg_terms.specs.Due.{same_kind, due_cases, lists_read_owner, same_case, is_due_case, is_row_for, is_row_from, is_answer, brings, row_brings, is_load_reply, is_store_reply}
+use Rattle.pg_terms.proofs.Same.{who_same}
 use Rattle.pg_shape.specs.NextRules.{requester_row, final_of, final_by, upgrade_of}
 use Rattle.pg_terms.specs.Rows.{final_under, reply_to, action_in}
 use Rattle.pg_shape.specs.ShapeFaults.{HasShape}
 use Rattle.pg_shape.specs.Shaped.{HasLists, HasTakes, HasRows, HasCores}
-use Rattle.pg_shape.proofs.Bools.{and_both}
+use Rattle.pg_shape.proofs.Bools.{three_both}
 use Rattle.pg_shape.proofs.Searches.{any_at, find_get, position_get, map_or_get, not_both}
-use Rattle.pg_shape.proofs.Shaped.{has_out, has_core_row, row_is_due, who_same}
+use Rattle.pg_shape.proofs.Shaped.{has_out, has_core_row, row_is_due}
 use Rattle.pg_shape.proofs.Rows.{asked, same_action, row_at}
 
 no_evict : (event : Event) → (event ≡ Load) ⊎ (event ≡ Store) → event ≡ Evict → ⊥
@@ -62,14 +62,6 @@ sharer_row d h event which s e =
     let (x, f) = has_core_row d h s event (first_within d s (inr e)) (λ at. absurd (no_evict event which at)) in
     (x, f, ap (λ (o : Option ℕ). option_and_then (λ n. core_row d n event) o) e ∙ f)
 
-three_both : (a b c : Bool) → a ≡ true → b ≡ true → c ≡ true → (a && b && c) ≡ true
-three_both true true c p q r = r
-three_both true false c p q r = absurd cc
-three_both false b c p q r = absurd cc
-
-same_self : (m : ℕ) → (m == m) ≡ true
-same_self m = eq-eqb m m refl
-
 -- a row line for a request, and what it brings
 record Brings (d : Draft) (class : ReqClass) (w : Who) (m : ℕ) : Type 0 where
   line : RowLine
@@ -91,7 +83,7 @@ brought d h n class w r x m e does b =
       place = k;
       at = g;
       for = subst (λ (f : RowForm). is_row_for d class f ≡ true) (sym a.spelled) a.asks;
-      from = subst (λ (f : RowForm). is_row_from d class w f ≡ true) (sym a.spelled) (and_both (is (request_of d class) a.request) (same_who w w) a.asks (who_same w));
+      from = subst (λ (f : RowForm). is_row_from d class w f ≡ true) (sym a.spelled) (and_from (is (request_of d class) a.request) (same_who w w) a.asks (who_same w));
       with = subst (λ (f : RowForm). row_brings d r.dir f m ≡ true) (sym a.spelled)
           (subst (λ (y : Action). brings d r.dir y m ≡ true) (sym same) (subst (λ k. brings d k x m ≡ true) (sym a.dir) b));
     }
@@ -99,12 +91,12 @@ brought d h n class w r x m e does b =
 load_may_get : (d : Draft) (m : ℕ) → Brings d Read Other m → is_load_reply d m ≡ true
 load_may_get d m b =
     any_at (λ r. is_row_for d Read r.form && row_brings d r.dir r.form m) d.rows b.place b.line b.at
-    (and_both (is_row_for d Read b.line.form) (row_brings d b.line.dir b.line.form m) b.for b.with)
+    (and_from (is_row_for d Read b.line.form) (row_brings d b.line.dir b.line.form m) b.for b.with)
 
 store_may_get : (d : Draft) (w : Who) (m : ℕ) → Brings d Write w m → is_store_reply d w m ≡ true
 store_may_get d w m b =
     any_at (λ r. is_row_from d Write w r.form && row_brings d r.dir r.form m) d.rows b.place b.line b.at
-    (and_both (is_row_from d Write w b.line.form) (row_brings d b.line.dir b.line.form m) b.from b.with)
+    (and_from (is_row_from d Write w b.line.form) (row_brings d b.line.dir b.line.form m) b.from b.with)
 
 -- a listed owner's answer to what is passed on
 record Answers (d : Draft) (n f x : ℕ) : Type 0 where
@@ -115,13 +107,13 @@ record Answers (d : Draft) (n f x : ℕ) : Type 0 where
 answers : (d : Draft) → HasTakes d → (n f x : ℕ) (t : TakeLine) (m : ℕ) → take_row d x f ≡ Some t → t.reply ≡ Some m → lists d n x ≡ true → Answers d n f x
 answers d takes n f x t m e answer at =
     let (j, g, p) = find_get (λ t. (t.state == x) && (t.forward == f)) d.takes t e in
-    let q = both (t.state == x) (t.forward == f) p in
+    let q = and_parts (t.state == x) (t.forward == f) p in
     let state : t.state ≡ x = eqb-true t.state x q.0 in
     record {
       reply = m;
       to = ap (λ (o : Option TakeLine). option_and_then (λ t. t.reply) o) e ∙ answer;
       brings = any_at (is_answer d n f m) d.takes j t g
-          (three_both (t.forward == f) (is t.reply m) (lists d n t.state) q.1 (ap (λ (o : Option ℕ). is o m) answer ∙ same_self m)
+          (three_both (t.forward == f) (is t.reply m) (lists d n t.state) q.1 (ap (λ (o : Option ℕ). is o m) answer ∙ eq-eqb m m refl)
           (subst (λ s. lists d n s ≡ true) (sym state) at));
     }
 
@@ -178,7 +170,7 @@ has_sharers d h l n r e = at (slice_get d.dirs n) refl (row_is_due d h n (case.A
 -- a READ that memory answers ends
 pub read_memory_ends : (d : Draft) → HasShape d → HasCores d → (n m : ℕ) (r : RowLine) → dir_row d n (case.Ask Read Other) ≡ Some r
     → action_in r.form ≡ Some (action.Reply m) → (s : ℕ) × (final_of d Load Other m ≡ Some s)
-read_memory_ends d h cores n m r e does = load_ends d h cores m (load_may_get d m (brought d h n Read Other r (action.Reply m) m e does (same_self m)))
+read_memory_ends d h cores n m r e does = load_ends d h cores m (load_may_get d m (brought d h n Read Other r (action.Reply m) m e does (eq-eqb m m refl)))
 
 -- a READ that an owner answers ends
 pub read_passed_ends : (d : Draft) → HasShape d → HasTakes d → HasCores d → (n f x : ℕ) (r : RowLine) (t : TakeLine) (m : ℕ) → dir_row d n (case.Ask Read Other) ≡ Some r
@@ -192,10 +184,10 @@ read_passed_ends d h takes cores n f x r t m e does row answer at =
 pub write_memory_ends : (d : Draft) → HasShape d → HasLists d → HasRows d → HasCores d → (n m : ℕ) (w : Who) (r : RowLine) → dir_row d n (case.Ask Write w) ≡ Some r
     → action_in r.form ≡ Some (action.Reply m) → (s : ℕ) × (final_of d Store w m ≡ Some s)
 write_memory_ends d h l rows cores n m Other r e does =
-    store_ends_other d h cores m (store_may_get d Other m (brought d h n Write Other r (action.Reply m) m e does (same_self m)))
+    store_ends_other d h cores m (store_may_get d Other m (brought d h n Write Other r (action.Reply m) m e does (eq-eqb m m refl)))
 write_memory_ends d h l rows cores n m Sharer r e does =
     let (o, is_shared) = has_sharers d h l n r e in
-    store_ends_sharer d h cores m o is_shared (store_may_get d Sharer m (brought d h n Write Sharer r (action.Reply m) m e does (same_self m)))
+    store_ends_sharer d h cores m o is_shared (store_may_get d Sharer m (brought d h n Write Sharer r (action.Reply m) m e does (eq-eqb m m refl)))
 write_memory_ends d h l rows cores n m Owner r e does = absurd (cc (rows.upgrade n r e, does))
 
 -- a WRITE that an owner answers ends

@@ -2,7 +2,7 @@
 use Rattle.std.proofs.Common.{◌≡◌, ℕ, ◌⊎◌, Bool, true, not, ◌&&◌, ◌||◌, List, Option, Some, None, refl, sym, subst, inl, inr, ap, ◌∙◌}
 use Rattle.std.specs.Prelude.{slice_get}
 use Rattle.std.specs.Option.{option_and_then}
-use Rattle.pg_perm.proofs.Booleans.{both}
+use Rattle.std.proofs.lemmas.Bool.{and_parts, not-false, or_cases}
 use Rattle.pg_perm.specs.declared.kinds.Event.TheVariants.{Load, Store}
 use Rattle.pg_perm.specs.declared.kinds.DirKind.TheVariants as kind
 use Rattle.pg_perm.specs.declared.kinds.Who.{Who}
@@ -26,7 +26,7 @@ use Rattle.pg_shape.specs.NextRules.{final_of, final_by, upgrade_of, lists_owner
 use Rattle.pg_terms.specs.Rows.{reply_to, action_in}
 use Rattle.pg_shape.specs.ShapeFaults.{HasShape}
 use Rattle.pg_shape.specs.Shaped.{HasLists, HasTakes, HasRows, HasReads, HasWrites, HasEvicts, HasCores}
-use Rattle.pg_shape.proofs.Bools.{three_and, not_false, one_of, where_so}
+use Rattle.pg_shape.proofs.Bools.{three_and, where_so}
 use Rattle.pg_shape.proofs.Shaped.{row_keeps, is_one}
 use Rattle.pg_shape.proofs.Takes.{answered}
 use Rattle.pg_shape.proofs.Finals.{read_memory_ends, read_passed_ends, write_memory_ends, write_passed_ends, upgrade_ends}
@@ -44,13 +44,13 @@ passed_at d h n class w r f e does =
 -- a READ's row leads where its action says
 read_leads : (d : Draft) (n : ℕ) (w : Who) (r : RowLine) (a : Asked d n Read w r) (x : Action) → action_in r.form ≡ Some x → reads_rightly d r w x ≡ true
 read_leads d n w r a x e =
-    let all = (both (not (is (request_of d Read) a.request) || reads_rightly d r w a.does) (not (is (request_of d Write) a.request) || writes_rightly d r w a.does) a.leads).0 in
+    let all = (and_parts (not (is (request_of d Read) a.request) || reads_rightly d r w a.does) (not (is (request_of d Write) a.request) || writes_rightly d r w a.does) a.leads).0 in
     subst (λ (y : Action). reads_rightly d r w y ≡ true) (same_action d n Read w r a x e) (where_so (is (request_of d Read) a.request) (reads_rightly d r w a.does) all a.asks)
 
 -- and so does a WRITE's
 write_leads : (d : Draft) (n : ℕ) (w : Who) (r : RowLine) (a : Asked d n Write w r) → writes_rightly d r w a.does ≡ true
 write_leads d n w r a =
-    let all = (both (not (is (request_of d Read) a.request) || reads_rightly d r w a.does) (not (is (request_of d Write) a.request) || writes_rightly d r w a.does) a.leads).1 in
+    let all = (and_parts (not (is (request_of d Read) a.request) || reads_rightly d r w a.does) (not (is (request_of d Write) a.request) || writes_rightly d r w a.does) a.leads).1 in
     where_so (is (request_of d Write) a.request) (writes_rightly d r w a.does) all a.asks
 
 -- the list of the directory state that the row is of
@@ -64,15 +64,15 @@ read_memory : (d : Draft) → HasShape d → (n m s : ℕ) (r : RowLine) → dir
 read_memory d h n m s r e does fin =
     let a = asked d h n Read Other r e in
     let ends : is_read_end d r s ≡ true = passing (is_read_end d r) (final_of d Load Other m) s (read_leads d n Other r a (action.Reply m) does) fin in
-    at a.dir (one_of (kind_is kind.Shared d r.next && is (shared d) s) (kind_is kind.Idle d r.dir && kind_is kind.Owned d r.next && lists_owner d r.next s) ends)
+    at a.dir (or_cases (kind_is kind.Shared d r.next && is (shared d) s) (kind_is kind.Idle d r.dir && kind_is kind.Owned d r.next && lists_owner d r.next s) ends)
   where
     at : r.dir ≡ n → ((kind_is kind.Shared d r.next && is (shared d) s) ≡ true) ⊎ ((kind_is kind.Idle d r.dir && kind_is kind.Owned d r.next && lists_owner d r.next s) ≡ true)
         → ((kind_is kind.Shared d r.next ≡ true) × (shared d ≡ Some s))
         ⊎ ((kind_is kind.Idle d n ≡ true) × (kind_is kind.Owned d r.next ≡ true) × (lists d r.next s ≡ true) × (cache_is (λ c. is_owner c.role) d s ≡ true))
-    at dir (inl p) = let q = both (kind_is kind.Shared d r.next) (is (shared d) s) p in inl (q.0, is_one (shared d) s q.1)
+    at dir (inl p) = let q = and_parts (kind_is kind.Shared d r.next) (is (shared d) s) p in inl (q.0, is_one (shared d) s q.1)
     at dir (inr p) =
         let q = three_and (kind_is kind.Idle d r.dir) (kind_is kind.Owned d r.next) (lists_owner d r.next s) p in
-        let o = both (lists d r.next s) (cache_is (λ c. is_owner c.role) d s) q.2 in
+        let o = and_parts (lists d r.next s) (cache_is (λ c. is_owner c.role) d s) q.2 in
         inr (subst (λ k. kind_is kind.Idle d k ≡ true) dir q.0, q.1, o.0, o.1)
 
 -- the parts of what a READ that is passed on leads to
@@ -102,7 +102,7 @@ reads d h l takes cores = record {
   memory = read_memory d h;
   share = λ n f r e does class.
       let p = read_parts d h n f r e does in
-      let q = both (kind_is kind.Shared d r.next) (are_shared d Other f (listed d r.dir)) (where_so (has_class Share d f) (leads_to_shared d r Other f) p.1 class) in
+      let q = and_parts (kind_is kind.Shared d r.next) (are_shared d Other f (listed d r.dir)) (where_so (has_class Share d f) (leads_to_shared d r Other f) p.1 class) in
       (q.0, λ x s at fin. shared_by d n f x s r p.0 q.1 at fin);
   keep = λ n f r e does class.
       let p = read_parts d h n f r e does in
@@ -114,7 +114,7 @@ reads d h l takes cores = record {
       );
   drop = λ n f r e does class.
       let p = read_parts d h n f r e does in
-      let q = both (kind_is kind.Owned d r.next) (are_owners d Other r.next f (listed d r.dir)) (where_so (has_class Drop d f) (leads_to_owned d r Other f) p.3 class) in
+      let q = and_parts (kind_is kind.Owned d r.next) (are_owners d Other r.next f (listed d r.dir)) (where_so (has_class Drop d f) (leads_to_owned d r Other f) p.3 class) in
       (q.0, λ x s at fin. owner_by n f x s r p.0 q.1 at fin);
 }
   where
@@ -122,15 +122,15 @@ reads d h l takes cores = record {
         → (lists d r.next s ≡ true) × (cache_is (λ c. is_owner c.role) d s ≡ true)
     owner_by n f x s r dir all at fin =
         let one : is_owner_by d Other r.next f x ≡ true = listed_all (is_owner_by d Other r.next f) d n x (at_dir d n (are_owners d Other r.next f) r dir all) at in
-        both (lists d r.next s) (cache_is (λ c. is_owner c.role) d s) (passing (lists_owner d r.next) (final_by d Load Other f x) s one fin)
+        and_parts (lists d r.next s) (cache_is (λ c. is_owner c.role) d s) (passing (lists_owner d r.next) (final_by d Load Other f x) s one fin)
 
 -- a WRITE leads to an owned state
 write_owned : (d : Draft) → HasShape d → (n : ℕ) (w : Who) (r : RowLine) → dir_row d n (case.Ask Write w) ≡ Some r → kind_is kind.Owned d r.next ≡ true
-write_owned d h n Other r e = let a = asked d h n Write Other r e in (both (kind_is kind.Owned d r.next) (lists_writer d r Other a.does) (write_leads d n Other r a)).0
-write_owned d h n Sharer r e = let a = asked d h n Write Sharer r e in (both (kind_is kind.Owned d r.next) (lists_writer d r Sharer a.does) (write_leads d n Sharer r a)).0
+write_owned d h n Other r e = let a = asked d h n Write Other r e in (and_parts (kind_is kind.Owned d r.next) (lists_writer d r Other a.does) (write_leads d n Other r a)).0
+write_owned d h n Sharer r e = let a = asked d h n Write Sharer r e in (and_parts (kind_is kind.Owned d r.next) (lists_writer d r Sharer a.does) (write_leads d n Sharer r a)).0
 write_owned d h n Owner r e =
     let a = asked d h n Write Owner r e in
-    (both (kind_is kind.Owned d r.next) (are_upgraded d r.next (listed d r.dir)) (write_leads d n Owner r a)).0
+    (and_parts (kind_is kind.Owned d r.next) (are_upgraded d r.next (listed d r.dir)) (write_leads d n Owner r a)).0
 
 -- the WRITE of another, or of a sharer, leads to a state that lists where it ends
 writer_listed : (d : Draft) → HasShape d → (n : ℕ) (w : Who) (r : RowLine) (x : Action) → dir_row d n (case.Ask Write w) ≡ Some r → action_in r.form ≡ Some x
@@ -138,8 +138,8 @@ writer_listed : (d : Draft) → HasShape d → (n : ℕ) (w : Who) (r : RowLine)
 writer_listed d h n w r x e does k = let a = asked d h n Write w r e in (a.dir, subst (λ (y : Action). lists_writer d r w y ≡ true) (same_action d n Write w r a x does) (at w (write_leads d n w r a) k))
   where
     at : (v : Who) → writes_rightly d r v (asked d h n Write w r e).does ≡ true → (v ≡ Other) ⊎ (v ≡ Sharer) → lists_writer d r v (asked d h n Write w r e).does ≡ true
-    at Other p k = (both (kind_is kind.Owned d r.next) (lists_writer d r Other (asked d h n Write w r e).does) p).1
-    at Sharer p k = (both (kind_is kind.Owned d r.next) (lists_writer d r Sharer (asked d h n Write w r e).does) p).1
+    at Other p k = (and_parts (kind_is kind.Owned d r.next) (lists_writer d r Other (asked d h n Write w r e).does) p).1
+    at Sharer p k = (and_parts (kind_is kind.Owned d r.next) (lists_writer d r Sharer (asked d h n Write w r e).does) p).1
     at Owner p (inl k) = absurd cc
     at Owner p (inr k) = absurd cc
 
@@ -181,7 +181,7 @@ writes d h l takes rows cores = record {
         → upgrade_of d x ≡ Some s → lists d r.next s ≡ true
     upgraded n x s r e at reader fin =
         let a = asked d h n Write Owner r e in
-        let all = (both (kind_is kind.Owned d r.next) (are_upgraded d r.next (listed d r.dir)) (write_leads d n Owner r a)).1 in
+        let all = (and_parts (kind_is kind.Owned d r.next) (are_upgraded d r.next (listed d r.dir)) (write_leads d n Owner r a)).1 in
         let one : is_upgrade_listed d r.next x ≡ true = listed_all (is_upgrade_listed d r.next) d n x (at_dir d n (are_upgraded d r.next) r a.dir all) at in
         where_so (cache_is is_read_owner d x) (lists d r.next s) (passing (λ t. not (cache_is is_read_owner d x) || lists d r.next t) (upgrade_of d x) s one fin) reader
 
@@ -189,7 +189,7 @@ writes d h l takes rows cores = record {
 evict_leads : (d : Draft) → HasShape d → (n : ℕ) (w : Who) (l : Left) (r : RowLine) → dir_row d n (case.Evict w l) ≡ Some r → (r.dir ≡ n) × (evicts_rightly d r w l ≡ true)
 evict_leads d h n w l r e =
     let (k, g, dir, for) = row_at d n (case.Evict w l) r e in
-    let leads : leads_rightly d r r.form ≡ true = not_false (leads_rightly d r r.form) (row_keeps d h k r g S17) in
+    let leads : leads_rightly d r r.form ≡ true = not-false (leads_rightly d r r.form) (row_keeps d h k r g S17) in
     (dir, subst (λ (x : RowForm). leads_rightly d r x ≡ true) (evict_form d r.form w l for) leads)
 
 -- of a sharer, where there is no owner and where there is one
@@ -197,7 +197,7 @@ sharer_leads : (d : Draft) → HasShape d → (n : ℕ) (l : Left) (r : RowLine)
     → (r.dir ≡ n) × (kind_is kind.Shared d n ≡ true → leaves_rightly d r l ≡ true) × (kind_is kind.Mixed d n ≡ true → keeps_owner d r l ≡ true)
 sharer_leads d h n l r e =
     let p = evict_leads d h n Sharer l r e in
-    let q = both (not (kind_is kind.Shared d r.dir) || leaves_rightly d r l) (not (kind_is kind.Mixed d r.dir) || keeps_owner d r l) p.1 in (
+    let q = and_parts (not (kind_is kind.Shared d r.dir) || leaves_rightly d r l) (not (kind_is kind.Mixed d r.dir) || keeps_owner d r l) p.1 in (
       p.0,
       λ k. where_so (kind_is kind.Shared d r.dir) (leaves_rightly d r l) q.0 (subst (λ m. kind_is kind.Shared d m ≡ true) (sym p.0) k),
       λ k. where_so (kind_is kind.Mixed d r.dir) (keeps_owner d r l) q.1 (subst (λ m. kind_is kind.Mixed d m ≡ true) (sym p.0) k),
@@ -211,11 +211,11 @@ evicts d h = record {
   shared_more = λ n r e k. (sharer_leads d h n More r e).1 k;
   mixed_last = λ n r e k.
       let p = sharer_leads d h n Last r e in
-      let q = both (kind_is kind.Mixed d r.next || kind_is kind.Owned d r.next) (lists_each d r.next (listed d r.dir)) (p.2 k) in
-      (one_of (kind_is kind.Mixed d r.next) (kind_is kind.Owned d r.next) q.0, λ x at. each n r p.0 q.1 x at);
+      let q = and_parts (kind_is kind.Mixed d r.next || kind_is kind.Owned d r.next) (lists_each d r.next (listed d r.dir)) (p.2 k) in
+      (or_cases (kind_is kind.Mixed d r.next) (kind_is kind.Owned d r.next) q.0, λ x at. each n r p.0 q.1 x at);
   mixed_more = λ n r e k.
       let p = sharer_leads d h n More r e in
-      let q = both (kind_is kind.Mixed d r.next) (lists_each d r.next (listed d r.dir)) (p.2 k) in
+      let q = and_parts (kind_is kind.Mixed d r.next) (lists_each d r.next (listed d r.dir)) (p.2 k) in
       (q.0, λ x at. each n r p.0 q.1 x at);
 }
   where

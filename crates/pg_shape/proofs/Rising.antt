@@ -1,8 +1,7 @@
 -- Numbers of lines that rise.
 use Rattle.std.proofs.Common.{◌≡◌, ℕ, ◌<◌, ◌⊎◌, true, List, [], ◌∷◌, ◌++◌, refl, arith, inl, inr}
 use Rattle.std.specs.Prelude.{nat_lt}
-use Rattle.std.proofs.lemmas.Bool.{and_from, ltb-true}
-use Rattle.pg_perm.proofs.Booleans.{both}
+use Rattle.std.proofs.lemmas.Bool.{and_from, ltb-true, and_parts}
 use Rattle.pg_perm.specs.Drafts.{is_rising}
 
 -- the number is one of these
@@ -22,20 +21,20 @@ in_behind (k ∷ ns) ms m i = inr (in_behind ns ms m i)
 -- the first is below those behind it
 pub rising_head : (n : ℕ) (ns : List ℕ) → is_rising (n ∷ ns) ≡ true → (m : ℕ) → In m ns → n < m
 rising_head n [] h m i = absurd i
-rising_head n (k ∷ ns) h m (inl e) = omega (arith, ltb-true n k (both (nat_lt n k) _ h).0, e)
+rising_head n (k ∷ ns) h m (inl e) = omega (arith, ltb-true n k (and_parts (nat_lt n k) _ h).0, e)
 rising_head n (k ∷ ns) h m (inr i) =
-    let t = both (nat_lt n k) _ h in
+    let t = and_parts (nat_lt n k) _ h in
     omega (arith, ltb-true n k t.0, rising_head k ns t.1 m i)
 
 pub rising_tail : (n : ℕ) (ns : List ℕ) → is_rising (n ∷ ns) ≡ true → is_rising ns ≡ true
 rising_tail n [] h = refl
-rising_tail n (m ∷ ns) h = (both (nat_lt n m) _ h).1
+rising_tail n (m ∷ ns) h = (and_parts (nat_lt n m) _ h).1
 
 pub rising_front : (ns ms : List ℕ) → is_rising (ns ++ ms) ≡ true → is_rising ns ≡ true
 rising_front [] ms h = refl
 rising_front (n ∷ []) ms h = refl
 rising_front (n ∷ m ∷ ns) ms h =
-    let t = both (nat_lt n m) _ h in
+    let t = and_parts (nat_lt n m) _ h in
     and_from (nat_lt n m) _ t.0 (rising_front (m ∷ ns) ms t.1)
 
 pub rising_behind : (ns ms : List ℕ) → is_rising (ns ++ ms) ≡ true → is_rising ms ≡ true

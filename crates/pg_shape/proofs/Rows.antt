@@ -2,9 +2,8 @@
 use Rattle.std.proofs.Common.{◌≡◌, ℕ, ◌⊎◌, Bool, true, false, not, ◌&&◌, ◌||◌, Option, Some, refl, sym, subst, ap, ◌∙◌}
 use Rattle.std.specs.Prelude.{slice_get, ◌==◌}
 use Rattle.std.specs.List.{list_all}
-use Rattle.std.proofs.lemmas.Bool.{eqb-true}
+use Rattle.std.proofs.lemmas.Bool.{eqb-true, and_parts, not-false, or_cases}
 use Rattle.std.proofs.lemmas.Option.{same_Some}
-use Rattle.pg_perm.proofs.Booleans.{both}
 use Rattle.pg_perm.specs.declared.kinds.DirKind.TheVariants as kind
 use Rattle.pg_perm.specs.declared.kinds.Who.{Who}
 use Rattle.pg_perm.specs.declared.kinds.Who.TheVariants.{Other, Sharer, Owner}
@@ -24,14 +23,15 @@ use Rattle.pg_terms.specs.declared.cases.DirCase.{DirCase}
 use Rattle.pg_terms.specs.declared.cases.DirCase.TheVariants as case
 use Rattle.pg_terms.specs.Terms.{is, request_of, same_who, same_left, has_class, listed, lists, is_case, dir_row}
 use Rattle.pg_terms.specs.Due.{kind_is}
+use Rattle.pg_terms.proofs.Same.{who_equal, left_equal}
 use Rattle.pg_shape.specs.RowRules.{is_reply, is_count, forwards, reads_by, writes_by, acts_wrongly}
 use Rattle.pg_shape.specs.NextRules.{passes, leads_rightly}
 use Rattle.pg_shape.specs.ShapeFaults.{HasShape}
 use Rattle.pg_shape.specs.Shaped.{HasRows}
 use Rattle.pg_terms.specs.Rows.{action_in}
-use Rattle.pg_shape.proofs.Bools.{three_not, and_not, not_false, or_so, one_of, one_three, where_so}
+use Rattle.pg_shape.proofs.Bools.{three_not, and_not, or_so, one_three, where_so}
 use Rattle.pg_shape.proofs.Searches.{any_get, all_at, find_get, some_of}
-use Rattle.pg_shape.proofs.Shaped.{row_keeps, who_equal, left_equal, row_is_due, due_case_has_row}
+use Rattle.pg_shape.proofs.Shaped.{row_keeps, row_is_due, due_case_has_row}
 
 -- where all listed states pass, one that is listed does
 pub listed_all : (p : ℕ → Bool) (d : Draft) (n x : ℕ) → list_all p (listed d n) ≡ true → lists d n x ≡ true → p x ≡ true
@@ -56,14 +56,14 @@ pub record Asked (d : Draft) (n : ℕ) (class : ReqClass) (w : Who) (r : RowLine
 ask_form : (d : Draft) (f : RowForm) (class : ReqClass) (w : Who) → is_case d f (case.Ask class w) ≡ true
     → (request : ℕ) × (does : Action) × (f ≡ form.Ask request w does) × (is (request_of d class) request ≡ true)
 ask_form d (form.Ask request who does) class w h =
-    let p = both (is (request_of d class) request) (same_who who w) h in
+    let p = and_parts (is (request_of d class) request) (same_who who w) h in
     (request, does, ap (λ (x : Who). form.Ask request x does) (who_equal who w p.1), p.0)
 ask_form d (form.Evict who left) class w h = absurd cc
 
 pub evict_form : (d : Draft) (f : RowForm) (w : Who) (l : Left) → is_case d f (case.Evict w l) ≡ true → f ≡ form.Evict w l
 evict_form d (form.Ask request who does) w l h = absurd cc
 evict_form d (form.Evict who left) w l h =
-    let p = both (same_who who w) (same_left left l) h in
+    let p = and_parts (same_who who w) (same_left left l) h in
     ap (λ (x : Who). form.Evict x left) (who_equal who w p.0) ∙ ap (λ (x : Left). form.Evict w x) (left_equal left l p.1)
 
 -- the row of a case is a row line for it
@@ -71,7 +71,7 @@ pub row_at : (d : Draft) (n : ℕ) (a : DirCase) (r : RowLine) → dir_row d n a
     → (k : ℕ) × (slice_get d.rows k ≡ Some r) × (r.dir ≡ n) × (is_case d r.form a ≡ true)
 row_at d n a r e =
     let (k, g, p) = find_get (λ r. (r.dir == n) && is_case d r.form a) d.rows r e in
-    let q = both (r.dir == n) (is_case d r.form a) p in
+    let q = and_parts (r.dir == n) (is_case d r.form a) p in
     (k, g, eqb-true r.dir n q.0, q.1)
 
 pub asked : (d : Draft) → HasShape d → (n : ℕ) (class : ReqClass) (w : Who) (r : RowLine) → dir_row d n (case.Ask class w) ≡ Some r → Asked d n class w r
@@ -79,7 +79,7 @@ asked d h n class w r e =
     let (k, g, dir, for) = row_at d n (case.Ask class w) r e in
     let (request, does, f, asks) = ask_form d r.form class w for in
     let acts : acts_wrongly d r.dir r.form ≡ false = row_keeps d h k r g S16 in
-    let leads : leads_rightly d r r.form ≡ true = not_false (leads_rightly d r r.form) (row_keeps d h k r g S17) in
+    let leads : leads_rightly d r r.form ≡ true = not-false (leads_rightly d r r.form) (row_keeps d h k r g S17) in
     record {
       request = request;
       does = does;
@@ -125,16 +125,16 @@ from_memory : (d : Draft) (n : ℕ) (class : ReqClass) (w : Who) (r : RowLine) �
     → (kind_is kind.Idle d n ≡ true) ⊎ (kind_is kind.Shared d n ≡ true) → (m : ℕ) × (action_in r.form ≡ Some (action.Reply m))
 from_memory d n class w r a k =
     let by = (acting d n class w r a).0 in
-    let (m, e) = is_reply-form a.does (not_false (is_reply a.does) (and_not _ _ by (or_so (kind_is kind.Idle d n) (kind_is kind.Shared d n) k))) in
+    let (m, e) = is_reply-form a.does (not-false (is_reply a.does) (and_not _ _ by (or_so (kind_is kind.Idle d n) (kind_is kind.Shared d n) k))) in
     (m, does_form d n class w r a ∙ ap Some e)
 
 -- READ where there is an owner
 read_by : (d : Draft) (n : ℕ) (w : Who) (r : RowLine) (a : Asked d n Read w r) → reads_by d n a.does ≡ true
-read_by d n w r a = not_false (reads_by d n a.does) (and_not (is (request_of d Read) a.request) (not (reads_by d n a.does)) (acting d n Read w r a).1 a.asks)
+read_by d n w r a = not-false (reads_by d n a.does) (and_not (is (request_of d Read) a.request) (not (reads_by d n a.does)) (acting d n Read w r a).1 a.asks)
 
 -- WRITE where there is an owner
 write_by : (d : Draft) (n : ℕ) (w : Who) (r : RowLine) (a : Asked d n Write w r) → writes_by d n w a.does ≡ true
-write_by d n w r a = not_false (writes_by d n w a.does) (and_not (is (request_of d Write) a.request) (not (writes_by d n w a.does)) (acting d n Write w r a).2 a.asks)
+write_by d n w r a = not-false (writes_by d n w a.does) (and_not (is (request_of d Write) a.request) (not (writes_by d n w a.does)) (acting d n Write w r a).2 a.asks)
 
 one_of_three : (d : Draft) (a : Action) → (forwards Share d a || forwards Keep d a || forwards Drop d a) ≡ true
     → (f : ℕ) × (a ≡ action.Forward f) × ((has_class Share d f ≡ true) ⊎ ((has_class Keep d f ≡ true) ⊎ (has_class Drop d f ≡ true)))
@@ -145,7 +145,7 @@ one_of_three d action.Count h = absurd cc
 one_of_two : (d : Draft) (a : Action) → (forwards Share d a || forwards Keep d a) ≡ true
     → (f : ℕ) × (a ≡ action.Forward f) × ((has_class Share d f ≡ true) ⊎ (has_class Keep d f ≡ true))
 one_of_two d (action.Reply m) h = absurd cc
-one_of_two d (action.Forward f) h = (f, refl, one_of (has_class Share d f) (has_class Keep d f) h)
+one_of_two d (action.Forward f) h = (f, refl, or_cases (has_class Share d f) (has_class Keep d f) h)
 one_of_two d action.Count h = absurd cc
 
 owned_by : (d : Draft) (n : ℕ) (a : Action) → reads_by d n a ≡ true → kind_is kind.Owned d n ≡ true
@@ -153,7 +153,7 @@ owned_by : (d : Draft) (n : ℕ) (a : Action) → reads_by d n a ≡ true → ki
 owned_by d n a h k = four (kind_is kind.Owned d n) (forwards Share d a) (forwards Keep d a) (forwards Drop d a) _ h k
   where
     four : (o s k t b : Bool) → ((not o || s || k || t) && b) ≡ true → o ≡ true → (s || k || t) ≡ true
-    four true s k t b h e = (both (s || k || t) b h).0
+    four true s k t b h e = (and_parts (s || k || t) b h).0
     four false s k t b h e = absurd cc
 
 mixed_by : (d : Draft) (n : ℕ) (a : Action) → reads_by d n a ≡ true → kind_is kind.Mixed d n ≡ true → (forwards Share d a || forwards Keep d a) ≡ true

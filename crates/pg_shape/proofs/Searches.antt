@@ -3,11 +3,10 @@ use Rattle.std.proofs.Common.{◌≡◌, ℕ, zero, suc, ◌+◌, ◌<◌, Bool,
 use Rattle.std.specs.Prelude.{slice_get, position, find, nat_lt, is_none}
 use Rattle.std.specs.Option.{option_map_or, option_copied}
 use Rattle.std.specs.List.{list_any, list_all, position_or_len}
-use Rattle.std.proofs.lemmas.Bool.{lt-ltb, ltb-true}
+use Rattle.std.proofs.lemmas.Bool.{lt-ltb, ltb-true, and_parts}
 use Rattle.std.proofs.lemmas.Option.{same_Some}
-use Rattle.pg_perm.proofs.Booleans.{both}
 
--- two answers that can't both be given
+-- two answers that can't and_parts be given
 pub not_both : (b : Bool) → b ≡ true → b ≡ false → ⊥
 not_both b h g = absurd (cc (h, g))
 
@@ -127,5 +126,5 @@ copied_none (Some x) h = absurd cc
 -- where all pass, the one at a place does
 pub all_at : {X : Type 0} (p : X → Bool) (xs : List X) (k : ℕ) (x : X) → list_all p xs ≡ true → slice_get xs k ≡ Some x → p x ≡ true
 all_at p [] k x h e = absurd cc
-all_at p (y ∷ xs) zero x h e = ap p (sym (same_Some y x e)) ∙ (both (p y) _ h).0
-all_at p (y ∷ xs) (suc k) x h e = all_at p xs k x (both (p y) _ h).1 e
+all_at p (y ∷ xs) zero x h e = ap p (sym (same_Some y x e)) ∙ (and_parts (p y) _ h).0
+all_at p (y ∷ xs) (suc k) x h e = all_at p xs k x (and_parts (p y) _ h).1 e

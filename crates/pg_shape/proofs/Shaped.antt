@@ -3,18 +3,14 @@ use Rattle.std.proofs.Common.{◌≡◌, ℕ, ◌<◌, ◌⊎◌, Bool, true, fa
 use Rattle.std.specs.Prelude.{slice_get, is_none, is_some, ◌==◌}
 use Rattle.std.specs.Option.{option_map_or, option_copied, IsSome}
 use Rattle.std.specs.List.{list_any}
-use Rattle.std.proofs.lemmas.Bool.{or_parts, eqb-true}
+use Rattle.std.proofs.lemmas.Bool.{or_parts, eqb-true, and_parts, not-false, or_cases, false_from_ne_true}
 use Rattle.std.proofs.lemmas.Option.{same_Some}
-use Rattle.pg_perm.proofs.Booleans.{both}
 use Rattle.pg_perm.specs.declared.kinds.Event.{Event}
 use Rattle.pg_perm.specs.declared.kinds.Event.TheVariants.{Load, Store, Evict}
 use Rattle.pg_perm.specs.declared.kinds.FwdClass.TheVariants.{Inv}
 use Rattle.pg_perm.specs.declared.kinds.DirKind.{DirKind}
 use Rattle.pg_perm.specs.declared.kinds.DirKind.TheVariants as kind
 use Rattle.pg_perm.specs.declared.kinds.Who.{Who}
-use Rattle.pg_perm.specs.declared.kinds.Who.TheVariants.{Other, Sharer, Owner}
-use Rattle.pg_perm.specs.declared.kinds.Left.{Left}
-use Rattle.pg_perm.specs.declared.kinds.Left.TheVariants.{Last, More}
 use Rattle.pg_perm.specs.declared.kinds.ReqClass.{ReqClass}
 use Rattle.pg_perm.specs.declared.kinds.ReqClass.TheVariants.{Read, Write, Clean, Dirty}
 use Rattle.pg_perm.specs.declared.draft.MsgClass.{MsgClass}
@@ -32,8 +28,9 @@ use Rattle.pg_perm.specs.declared.fault.Rule.{Rule}
 use Rattle.pg_perm.specs.declared.fault.Rule.TheVariants.{S2, S5, S8, S12, S13, S15, S18}
 use Rattle.pg_terms.specs.declared.cases.DirCase.{DirCase}
 use Rattle.pg_terms.specs.declared.cases.DirCase.TheVariants as case
-use Rattle.pg_terms.specs.Terms.{is, is_shared, is_owner, is_request_of, same_request, same_who, same_left, cache_is, out, shared, request_of, forward_of, core_row, take_row, is_case, dir_row, lists}
+use Rattle.pg_terms.specs.Terms.{is, is_shared, is_owner, is_request_of, same_who, cache_is, out, shared, request_of, forward_of, core_row, take_row, is_case, dir_row, lists}
 use Rattle.pg_terms.specs.Due.{forward_in, is_to_owner, is_passed_to, is_due, due_cases, lists_read_owner, cases_at, same_case, is_due_case}
+use Rattle.pg_terms.proofs.Same.{who_equal, left_equal, request_equal, case_equal, case_same}
 use Rattle.pg_shape.specs.TextRules.{text_breaks}
 use Rattle.pg_shape.specs.CacheRules.{cache_breaks, lacks_core_lines, lacks_inv_line, lacks_answer, lacks_take_lines}
 use Rattle.pg_shape.specs.DirRules.{dir_breaks, lacks_row}
@@ -42,36 +39,36 @@ use Rattle.pg_shape.specs.CoreRules.{core_breaks}
 use Rattle.pg_shape.specs.TakeRules.{take_breaks, takes_wrongly}
 use Rattle.pg_shape.specs.RowRules.{row_breaks, is_not_due}
 use Rattle.pg_shape.specs.ShapeFaults.{HasShape}
-use Rattle.pg_shape.proofs.Bools.{three_not, three_and, and_not, middle_not, not_false, and_both, one_of}
-use Rattle.pg_shape.proofs.Searches.{not_both, not_true, any_get, any_at, any_not, find_get, position_get, get_below, map_or_get, some_of, copied_none}
+use Rattle.pg_shape.proofs.Bools.{three_not, three_and, and_not, middle_not}
+use Rattle.pg_shape.proofs.Searches.{not_both, any_get, any_at, any_not, find_get, position_get, get_below, map_or_get, some_of, copied_none}
 
 -- no rule is broken by the protocol line
 pub text_keeps : (d : Draft) → HasShape d → (R : Rule) → text_breaks d R ≡ false
-text_keeps d h R = not_true (text_breaks d R) (λ b. h.whole d.line R (inl (refl, b)))
+text_keeps d h R = false_from_ne_true (text_breaks d R) (λ b. h.whole d.line R (inl (refl, b)))
 
 -- or by the line of a cache state
 pub cache_keeps : (d : Draft) → HasShape d → (n : ℕ) (x : CacheLine) → slice_get d.caches n ≡ Some x → (R : Rule) → cache_breaks d n x R ≡ false
-cache_keeps d h n x e R = not_true (cache_breaks d n x R) (λ b. h.whole x.line R (inr (inl (n, x, e, refl, b))))
+cache_keeps d h n x e R = false_from_ne_true (cache_breaks d n x R) (λ b. h.whole x.line R (inr (inl (n, x, e, refl, b))))
 
 -- or by the line of a directory state
 pub dir_keeps : (d : Draft) → HasShape d → (n : ℕ) (x : DirLine) → slice_get d.dirs n ≡ Some x → (R : Rule) → dir_breaks d n x R ≡ false
-dir_keeps d h n x e R = not_true (dir_breaks d n x R) (λ b. h.whole x.line R (inr (inr (inl (n, x, e, refl, b)))))
+dir_keeps d h n x e R = false_from_ne_true (dir_breaks d n x R) (λ b. h.whole x.line R (inr (inr (inl (n, x, e, refl, b)))))
 
 -- or by the line of a message
 pub message_keeps : (d : Draft) → HasShape d → (n : ℕ) (x : MsgLine) → slice_get d.messages n ≡ Some x → (R : Rule) → message_breaks d n x R ≡ false
-message_keeps d h n x e R = not_true (message_breaks d n x R) (λ b. h.whole x.line R (inr (inr (inr (inl (n, x, e, refl, b))))))
+message_keeps d h n x e R = false_from_ne_true (message_breaks d n x R) (λ b. h.whole x.line R (inr (inr (inr (inl (n, x, e, refl, b))))))
 
 -- or by a core line
 pub core_keeps : (d : Draft) → HasShape d → (n : ℕ) (x : CoreLine) → slice_get d.cores n ≡ Some x → (R : Rule) → core_breaks d n x R ≡ false
-core_keeps d h n x e R = not_true (core_breaks d n x R) (λ b. h.whole x.line R (inr (inr (inr (inr (inl (n, x, e, refl, b)))))))
+core_keeps d h n x e R = false_from_ne_true (core_breaks d n x R) (λ b. h.whole x.line R (inr (inr (inr (inr (inl (n, x, e, refl, b)))))))
 
 -- or by a take line
 pub take_keeps : (d : Draft) → HasShape d → (n : ℕ) (x : TakeLine) → slice_get d.takes n ≡ Some x → (R : Rule) → take_breaks d n x R ≡ false
-take_keeps d h n x e R = not_true (take_breaks d n x R) (λ b. h.whole x.line R (inr (inr (inr (inr (inr (inl (n, x, e, refl, b))))))))
+take_keeps d h n x e R = false_from_ne_true (take_breaks d n x R) (λ b. h.whole x.line R (inr (inr (inr (inr (inr (inl (n, x, e, refl, b))))))))
 
 -- or by a row line
 pub row_keeps : (d : Draft) → HasShape d → (n : ℕ) (x : RowLine) → slice_get d.rows n ≡ Some x → (R : Rule) → row_breaks d n x R ≡ false
-row_keeps d h n x e R = not_true (row_breaks d n x R) (λ b. h.whole x.line R (inr (inr (inr (inr (inr (inr (n, x, e, refl, b))))))))
+row_keeps d h n x e R = false_from_ne_true (row_breaks d n x R) (λ b. h.whole x.line R (inr (inr (inr (inr (inr (inr (n, x, e, refl, b))))))))
 
 pub is_one : (o : Option ℕ) (n : ℕ) → is o n ≡ true → o ≡ Some n
 is_one None n h = absurd cc
@@ -101,11 +98,11 @@ has_core_row d h s event below leaves =
 pub take_is_due : (d : Draft) → HasShape d → (s f : ℕ) (t : TakeLine) → take_row d s f ≡ Some t → is_due d s f ≡ true
 take_is_due d h s f t e =
     let (k, g, passes) = find_get (λ t. (t.state == s) && (t.forward == f)) d.takes t e in
-    let same = both (t.state == s) (t.forward == f) passes in
+    let same = and_parts (t.state == s) (t.forward == f) passes in
     let state : t.state ≡ s = eqb-true t.state s same.0 in
     let forward : t.forward ≡ f = eqb-true t.forward f same.1 in
     let wrong : takes_wrongly d t ≡ false = take_keeps d h k t g S12 in
-    let right = not_false (is_due d t.state t.forward) (or_parts (not (is_due d t.state t.forward)) _ wrong).0 in
+    let right = not-false (is_due d t.state t.forward) (or_parts (not (is_due d t.state t.forward)) _ wrong).0 in
     subst (λ m. is_due d m f ≡ true) state (subst (λ m. is_due d t.state m ≡ true) forward right)
 
 -- the shared state has a take line for inv
@@ -127,24 +124,24 @@ owner_has_take d h s f owner to_owner passed =
     let lacks : lacks_take_lines d s x ≡ false = cache_keeps d h s x e S13 in
     let none = and_not (is_owner x.role) _ (or_parts (lacks_inv_line d s) _ lacks).1 role in
     let row : lacks_answer d s r ≡ false = any_not (lacks_answer d s) d.rows k r none g in
-    let parts = both (is (forward_in r.form) f) (lists d r.dir s) to in
+    let parts = and_parts (is (forward_in r.form) f) (lists d r.dir s) to in
     let here : (is_to_owner d f && is_none (take_row d s f) && lists d r.dir s) ≡ false =
     subst (λ o. option_map_or (λ f. is_to_owner d f && is_none (take_row d s f) && lists d r.dir s) o false ≡ false) (is_one (forward_in r.form) f parts.0) row in
     middle_not (is_to_owner d f) (is_none (take_row d s f)) (lists d r.dir s) here to_owner parts.1
 
 -- a due pair has a take line
 pub due_has_take : (d : Draft) → HasShape d → (s f : ℕ) → is_due d s f ≡ true → is_none (take_row d s f) ≡ false
-due_has_take d h s f due = at (one_of _ _ due)
+due_has_take d h s f due = at (or_cases _ _ due)
   where
     at : ((is (shared d) s && is (forward_of d Inv) f) ≡ true)
         ⊎ ((cache_is (λ c. is_owner c.role) d s && is_to_owner d f && list_any (is_passed_to d s f) d.rows) ≡ true)
         → is_none (take_row d s f) ≡ false
-    at (inl p) = let q = both (is (shared d) s) _ p in inv_has_take d h s f q.0 q.1
+    at (inl p) = let q = and_parts (is (shared d) s) _ p in inv_has_take d h s f q.0 q.1
     at (inr p) = let q = three_and (cache_is (λ c. is_owner c.role) d s) (is_to_owner d f) _ p in owner_has_take d h s f q.0 q.1 q.2
 
 -- there is no take row exactly where the pair isn't due
 pub take_rows : (d : Draft) → HasShape d → (s f : ℕ) → (take_row d s f ≡ None → is_due d s f ≡ false) × (is_due d s f ≡ false → take_row d s f ≡ None)
-take_rows d h s f = (λ e. not_true (is_due d s f) (λ due. not_both (is_none (take_row d s f)) (ap is_none e) (due_has_take d h s f due)), at (take_row d s f) refl)
+take_rows d h s f = (λ e. false_from_ne_true (is_due d s f) (λ due. not_both (is_none (take_row d s f)) (ap is_none e) (due_has_take d h s f due)), at (take_row d s f) refl)
   where
     at : (o : Option TakeLine) → take_row d s f ≡ o → is_due d s f ≡ false → o ≡ None
     at None e other = refl
@@ -154,40 +151,6 @@ take_rows d h s f = (λ e. not_true (is_due d s f) (λ due. not_both (is_none (t
 pub take_answered : (d : Draft) → HasShape d → (s f : ℕ) (o : Option (Bor TakeLine)) → option_copied o ≡ take_row d s f
     → (o ≡ None → is_due d s f ≡ false) × (is_due d s f ≡ false → o ≡ None)
 take_answered d h s f o e = let rows = take_rows d h s f in (λ none. rows.0 (sym e ∙ ap option_copied none), λ other. copied_none o (e ∙ rows.1 other))
-
--- words of the same are the same
-pub who_equal : (a b : Who) → same_who a b ≡ true → a ≡ b
-who_equal Other Other h = refl
-who_equal Sharer Sharer h = refl
-who_equal Owner Owner h = refl
-who_equal _ _ h = absurd cc
-
-pub left_equal : (a b : Left) → same_left a b ≡ true → a ≡ b
-left_equal Last Last h = refl
-left_equal More More h = refl
-left_equal _ _ h = absurd cc
-
-pub request_equal : (a b : ReqClass) → same_request a b ≡ true → a ≡ b
-request_equal Read Read h = refl
-request_equal Write Write h = refl
-request_equal Clean Clean h = refl
-request_equal Dirty Dirty h = refl
-request_equal _ _ h = absurd cc
-
-pub who_same : (a : Who) → same_who a a ≡ true
-who_same Other = refl
-who_same Sharer = refl
-who_same Owner = refl
-
-pub left_same : (a : Left) → same_left a a ≡ true
-left_same Last = refl
-left_same More = refl
-
-pub request_same : (a : ReqClass) → same_request a a ≡ true
-request_same Read = refl
-request_same Write = refl
-request_same Clean = refl
-request_same Dirty = refl
 
 -- a message is a request of one class
 one_class : (m : MsgClass) (a b : ReqClass) → is_request_of a m ≡ true → is_request_of b m ≡ true → a ≡ b
@@ -206,42 +169,32 @@ class_equal d a b m h g =
 -- a row line is for one case
 one_case : (d : Draft) (form : RowForm) (a b : DirCase) → is_case d form a ≡ true → is_case d form b ≡ true → same_case a b ≡ true
 one_case d (form.Ask request who action) (case.Ask c w) (case.Ask e v) h g =
-    let p = both (is (request_of d c) request) _ h in
-    let q = both (is (request_of d e) request) _ g in
+    let p = and_parts (is (request_of d c) request) _ h in
+    let q = and_parts (is (request_of d e) request) _ g in
     let class : c ≡ e = class_equal d c e request p.0 q.0 in
     let sender : w ≡ v = sym (who_equal who w p.1) ∙ who_equal who v q.1 in
-    subst (λ (x : ReqClass). (same_request c x && same_who w v) ≡ true) class
-    (subst (λ (x : Who). (same_request c c && same_who w x) ≡ true) sender (and_both (same_request c c) (same_who w w) (request_same c) (who_same w)))
+    let same : case.Ask c w ≡ case.Ask e v = cc (class, sender) in
+    subst (λ (x : DirCase). same_case (case.Ask c w) x ≡ true) same (case_same (case.Ask c w))
 one_case d (form.Ask request who action) (case.Ask c w) (case.Evict v l) h g = absurd cc
 one_case d (form.Ask request who action) (case.Evict w l) b h g = absurd cc
 one_case d (form.Evict who left) (case.Ask c w) b h g = absurd cc
 one_case d (form.Evict who left) (case.Evict w l) (case.Ask c v) h g = absurd cc
 one_case d (form.Evict who left) (case.Evict w l) (case.Evict v m) h g =
-    let p = both (same_who who w) _ h in
-    let q = both (same_who who v) _ g in
+    let p = and_parts (same_who who w) _ h in
+    let q = and_parts (same_who who v) _ g in
     let sender : w ≡ v = sym (who_equal who w p.0) ∙ who_equal who v q.0 in
     let others : l ≡ m = sym (left_equal left l p.1) ∙ left_equal left m q.1 in
-    subst (λ (x : Who). (same_who w x && same_left l m) ≡ true) sender
-    (subst (λ (x : Left). (same_who w w && same_left l x) ≡ true) others (and_both (same_who w w) (same_left l l) (who_same w) (left_same l)))
-
-case_equal : (a b : DirCase) → same_case a b ≡ true → a ≡ b
-case_equal (case.Ask c w) (case.Ask e v) h =
-    let p = both (same_request c e) _ h in
-    ap (λ (x : ReqClass). case.Ask x w) (request_equal c e p.0) ∙ ap (λ (x : Who). case.Ask e x) (who_equal w v p.1)
-case_equal (case.Ask c w) (case.Evict v m) h = absurd cc
-case_equal (case.Evict w l) (case.Ask c v) h = absurd cc
-case_equal (case.Evict w l) (case.Evict v m) h =
-    let p = both (same_who w v) _ h in
-    ap (λ (x : Who). case.Evict x l) (who_equal w v p.0) ∙ ap (λ (x : Left). case.Evict v x) (left_equal l m p.1)
+    let same : case.Evict w l ≡ case.Evict v m = cc (sender, others) in
+    subst (λ (x : DirCase). same_case (case.Evict w l) x ≡ true) same (case_same (case.Evict w l))
 
 -- a case with a row line is due
 pub row_is_due : (d : Draft) → HasShape d → (n : ℕ) (a : DirCase) (r : RowLine) → dir_row d n a ≡ Some r → is_due_case d n a ≡ true
 row_is_due d h n a r e =
     let (k, g, passes) = find_get (λ r. (r.dir == n) && is_case d r.form a) d.rows r e in
-    let same = both (r.dir == n) (is_case d r.form a) passes in
+    let same = and_parts (r.dir == n) (is_case d r.form a) passes in
     let dir : r.dir ≡ n = eqb-true r.dir n same.0 in
     let wrong : is_not_due d r ≡ false = row_keeps d h k r g S15 in
-    let due = not_false (list_any (is_case d r.form) (cases_at d r.dir)) wrong in
+    let due = not-false (list_any (is_case d r.form) (cases_at d r.dir)) wrong in
     let (j, b, f, for) = any_get (is_case d r.form) (cases_at d r.dir) due in
     let right = any_at (same_case a) (cases_at d r.dir) j b f (one_case d r.form a b same.1 for) in
     subst (λ m. list_any (same_case a) (cases_at d m) ≡ true) dir right
@@ -271,11 +224,6 @@ due_class kind.Owned true Dirty w h = absurd cc
 due_class kind.Owned false Dirty w h = absurd cc
 due_class _ reads Clean w h = absurd cc
 due_class _ reads Dirty w h = absurd cc
-
--- a case is the same as itself
-pub same_case_self : (a : DirCase) → same_case a a ≡ true
-same_case_self (case.Ask c w) = and_both (same_request c c) (same_who w w) (request_same c) (who_same w)
-same_case_self (case.Evict w l) = and_both (same_who w w) (same_left l l) (who_same w) (left_same l)
 
 -- what is due of requests at a directory state is READ or WRITE
 pub due_class_of : (d : Draft) (n : ℕ) (c : ReqClass) (w : Who) → is_due_case d n (case.Ask c w) ≡ true → (c ≡ Read) ⊎ (c ≡ Write)
@@ -313,7 +261,7 @@ due_case_has_row d h n a due = at (slice_get d.dirs n) refl
 
 -- there is no row exactly where the case isn't due
 pub dir_rows : (d : Draft) → HasShape d → (n : ℕ) (a : DirCase) → (dir_row d n a ≡ None → is_due_case d n a ≡ false) × (is_due_case d n a ≡ false → dir_row d n a ≡ None)
-dir_rows d h n a = (λ e. not_true (is_due_case d n a) (λ due. not_both (is_none (dir_row d n a)) (ap is_none e) (due_case_has_row d h n a due)), at (dir_row d n a) refl)
+dir_rows d h n a = (λ e. false_from_ne_true (is_due_case d n a) (λ due. not_both (is_none (dir_row d n a)) (ap is_none e) (due_case_has_row d h n a due)), at (dir_row d n a) refl)
   where
     at : (o : Option RowLine) → dir_row d n a ≡ o → is_due_case d n a ≡ false → o ≡ None
     at None e other = refl

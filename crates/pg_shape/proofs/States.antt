@@ -3,13 +3,13 @@ use Rattle.std.proofs.Common.{◌≡◌, ℕ, zero, suc, ◌<◌, ◌⊎◌, Boo
 use Rattle.std.specs.Prelude.{slice_get, take, position, is_some, ◌==◌, nat_le}
 use Rattle.std.specs.Option.{option_map_or}
 use Rattle.std.specs.List.{list_any}
-use Rattle.std.proofs.lemmas.Bool.{or_parts, eqb-true, eq-eqb}
+use Rattle.std.proofs.lemmas.Bool.{or_parts, eqb-true, eq-eqb, and_from, not-false, or_left, or_right}
 use Rattle.std.proofs.lemmas.Option.{same_Some}
 use Rattle.pg_perm.specs.declared.kinds.Perm.{Perm}
 use Rattle.pg_perm.specs.declared.kinds.Perm.TheVariants as perm
 use Rattle.pg_perm.specs.declared.kinds.DirKind.TheVariants as kind
 use Rattle.pg_perm.specs.declared.kinds.FwdClass.{FwdClass}
-use Rattle.pg_perm.specs.declared.kinds.FwdClass.TheVariants.{Inv, Share, Keep, Drop}
+use Rattle.pg_perm.specs.declared.kinds.FwdClass.TheVariants.{Inv}
 use Rattle.pg_perm.specs.declared.draft.MsgClass.{MsgClass}
 use Rattle.pg_perm.specs.declared.draft.MsgClass.TheVariants.{Request, Forward, Reply}
 use Rattle.pg_perm.specs.declared.draft.Draft.{Draft}
@@ -20,6 +20,7 @@ use Rattle.pg_perm.specs.declared.fault.Rule.TheVariants.{S1, S2, S3, S4, S6}
 use Rattle.pg_terms.specs.Terms.{is_out, is_shared, is_owner, is_none_perm, is_read_perm, is_write_perm, same_forward, is_forward_of, is_write_owner, is_read_owner, cache_is, out, shared, forward_of, has_class, lists_state}
 use Rattle.pg_terms.specs.Terms as terms
 use Rattle.pg_terms.specs.Due.{same_kind, kind_is}
+use Rattle.pg_terms.proofs.Same.{forward_equal}
 use Rattle.pg_shape.specs.TextRules.{has_kind, lacks_dirs, lacks_inv}
 use Rattle.pg_shape.specs.CacheRules.{has_wrong_perm, owners, is_one_too_many, is_needlessly_clean, is_listed, is_unlisted}
 use Rattle.pg_shape.specs.CacheRules as cache
@@ -27,8 +28,8 @@ use Rattle.pg_shape.specs.DirRules.{is_idle, is_second_idle, has_no_owner, is_em
 use Rattle.pg_shape.specs.MessageRules.{has_forward, is_inv_to_none}
 use Rattle.pg_shape.specs.ShapeFaults.{HasShape}
 use Rattle.pg_shape.specs.Shaped.{IsCache, IsDir, HasPerms, HasLists, HasForwards}
-use Rattle.pg_shape.proofs.Bools.{three_not, and_not, not_false, and_both}
-use Rattle.pg_shape.proofs.Searches.{not_both, or_left, or_right, any_get, any_at, any_not, position_get, position_none, map_or_get, some_of}
+use Rattle.pg_shape.proofs.Bools.{three_not, and_not}
+use Rattle.pg_shape.proofs.Searches.{not_both, any_get, any_at, any_not, position_get, position_none, map_or_get, some_of}
 use Rattle.pg_shape.proofs.Shaped.{text_keeps, cache_keeps, dir_keeps, message_keeps, has_out}
 
 -- Places at which a test passes
@@ -97,15 +98,15 @@ perms d h = record {
   start = has_out d h;
   out_none = λ s c e role. (
     first_place (λ c. is_out c.role) d.caches (one_out d h) s c e role,
-    not_false (is_none_perm c.perm) (and_not (is_out c.role) _ (right_perm d h s c e).0 role),
+    not-false (is_none_perm c.perm) (and_not (is_out c.role) _ (right_perm d h s c e).0 role),
   );
   shared_read = λ s c e role. (
     first_place (λ c. is_shared c.role) d.caches (one_shared d h) s c e role,
-    not_false (is_read_perm c.perm) (and_not (is_shared c.role) _ (right_perm d h s c e).1 role),
+    not-false (is_read_perm c.perm) (and_not (is_shared c.role) _ (right_perm d h s c e).1 role),
   );
   owner_some = owner_some d h;
   clean_owner = λ s c e clean. let kept : is_needlessly_clean c ≡ false = cache_keeps d h s c e S3 in
-      not_false (is_owner c.role) (and_not c.clean _ kept clean);
+      not-false (is_owner c.role) (and_not c.clean _ kept clean);
 }
 
 -- Directory states
@@ -164,7 +165,7 @@ right_number d h n l e = or_parts (has_no_owner l.kind && not (is_empty l.beside
 
 -- where there is no owner nothing is listed
 lists_none : (d : Draft) → HasShape d → (n : ℕ) (l : DirLine) → IsDir d n l → has_no_owner l.kind ≡ true → l.beside ≡ []
-lists_none d h n l e none = empty_none l.beside (not_false (is_empty l.beside) (and_not (has_no_owner l.kind) _ (right_number d h n l e).0 none))
+lists_none d h n l e none = empty_none l.beside (not-false (is_empty l.beside) (and_not (has_no_owner l.kind) _ (right_number d h n l e).0 none))
 
 -- where there is one some state is
 lists_some : (d : Draft) → HasShape d → (n : ℕ) (l : DirLine) → IsDir d n l → has_no_owner l.kind ≡ false → (s : ℕ) × (terms.lists d n s ≡ true)
@@ -176,7 +177,7 @@ lists_some d h n l e some =
 lists_owners : (d : Draft) → HasShape d → (n s : ℕ) → terms.lists d n s ≡ true → cache_is (λ c. is_owner c.role) d s ≡ true
 lists_owners d h n s listed =
     let (l, e, here) = listed_get d n s listed in
-    not_false (cache_is (λ c. is_owner c.role) d s)
+    not-false (cache_is (λ c. is_owner c.role) d s)
     (listed_not (λ s. not (cache_is (λ c. is_owner c.role) d s)) l.beside s (right_list d h n l e).3 here)
 
 -- a permission that is neither none nor write is read
@@ -196,7 +197,7 @@ reads_left d h s owner writes =
     let (c, e, role) = map_or_get (λ c. is_owner c.role) (slice_get d.caches s) owner in
     let no_writer : is_write_owner c ≡ false = sym (cache_at is_write_owner d s c e) ∙ writes in
     let reads = read_left c.perm (owner_some d h s c e role) (and_not (is_owner c.role) _ no_writer role) in
-    cache_at is_read_owner d s c e ∙ and_both (is_owner c.role) (is_read_perm c.perm) role reads
+    cache_at is_read_owner d s c e ∙ and_from (is_owner c.role) (is_read_perm c.perm) role reads
 
 -- where there are sharers beside the owner it may only read
 lists_readers : (d : Draft) → HasShape d → (n s : ℕ) → kind_is kind.Mixed d n ≡ true → terms.lists d n s ≡ true → cache_is is_read_owner d s ≡ true
@@ -210,7 +211,7 @@ owner_listed : (d : Draft) → HasShape d → (s : ℕ) → cache_is (λ c. is_o
 owner_listed d h s owner =
     let (c, e, role) = map_or_get (λ c. is_owner c.role) (slice_get d.caches s) owner in
     let kept : is_unlisted d s c ≡ false = cache_keeps d h s c e S4 in
-    let listed = not_false (is_listed d s) (and_not (is_owner c.role) _ kept role) in
+    let listed = not-false (is_listed d s) (and_not (is_owner c.role) _ kept role) in
     let (n, l, f, here) = any_get (λ l. lists_state l.beside s) d.dirs listed in
     (n, sym (listed_in d n s l f) ∙ here)
 
@@ -218,7 +219,7 @@ owner_listed d h s owner =
 has_idle : (d : Draft) → HasShape d → (n : ℕ) × (kind_is kind.Idle d n ≡ true)
 has_idle d h =
     let kept : lacks_dirs d ≡ false = text_keeps d h S4 in
-    let idle = not_false (has_kind kind.Idle d) (or_parts (not (has_kind kind.Idle d)) _ kept).0 in
+    let idle = not-false (has_kind kind.Idle d) (or_parts (not (has_kind kind.Idle d)) _ kept).0 in
     let (n, l, e, of_kind) = any_get (λ l. same_kind kind.Idle l.kind) d.dirs idle in
     (n, ap (λ (o : Option DirLine). option_map_or (λ l. same_kind kind.Idle l.kind) o false) e ∙ of_kind)
 
@@ -263,14 +264,6 @@ lists d h = record {
 }
 
 -- Forwards
-
--- words of the same are the same
-forward_equal : (a b : FwdClass) → same_forward a b ≡ true → a ≡ b
-forward_equal Inv Inv h = refl
-forward_equal Share Share h = refl
-forward_equal Keep Keep h = refl
-forward_equal Drop Drop h = refl
-forward_equal _ _ h = absurd cc
 
 -- a second forward of a class is one of this class
 second_forward : (above : List MsgLine) (class : FwdClass) (m : MsgClass) → is_forward_of class m ≡ true

@@ -3,9 +3,8 @@ use Rattle.std.proofs.Common.{◌≡◌, ℕ, ◌⊎◌, Bool, true, false, not,
 use Rattle.std.specs.Prelude.{slice_get, ◌==◌, is_none, is_some}
 use Rattle.std.specs.Option.{option_map, option_map_or, option_and_then}
 use Rattle.std.specs.List.{list_any}
-use Rattle.std.proofs.lemmas.Bool.{or_parts, eqb-true, eq-eqb}
+use Rattle.std.proofs.lemmas.Bool.{or_parts, eqb-true, eq-eqb, and_parts, and_from, not-false}
 use Rattle.std.proofs.lemmas.Option.{same_Some}
-use Rattle.pg_perm.proofs.Booleans.{both}
 use Rattle.pg_perm.specs.declared.kinds.DirKind.{DirKind}
 use Rattle.pg_perm.specs.declared.kinds.DirKind.TheVariants as kind
 use Rattle.pg_perm.specs.declared.kinds.Who.{Who}
@@ -32,16 +31,17 @@ use Rattle.pg_terms.specs.Rows.{may_keep}
 use Rattle.pg_shape.specs.RowRules.{is_reply, reads_by, writes_by, acts_wrongly}
 use Rattle.pg_shape.specs.ShapeFaults.{HasShape}
 use Rattle.pg_shape.specs.Shaped.{HasTakes, HasLists}
-use Rattle.pg_shape.proofs.Bools.{three_not, and_not, and_both, not_false, or_so, one_three}
+use Rattle.pg_terms.proofs.Same.{case_same}
+use Rattle.pg_shape.proofs.Bools.{three_not, and_not, or_so, one_three, three_both}
 use Rattle.pg_shape.proofs.Searches.{any_get, any_at, find_get, position_get, some_of, not_both}
-use Rattle.pg_shape.proofs.Shaped.{take_keeps, row_keeps, is_one, due_has_take, due_class_of, same_case_self}
+use Rattle.pg_shape.proofs.Shaped.{take_keeps, row_keeps, is_one, due_has_take, due_class_of}
 
 -- the row of a pair is a take line for it, which breaks no rule
 taken : (d : Draft) → HasShape d → (s f : ℕ) (t : TakeLine) → take_row d s f ≡ Some t
     → (t.state ≡ s) × (t.forward ≡ f) × (answers_wrongly d t ≡ false) × (keeps_moving d t ≡ false)
 taken d h s f t e =
     let (k, g, p) = find_get (λ t. (t.state == s) && (t.forward == f)) d.takes t e in
-    let q = both (t.state == s) (t.forward == f) p in
+    let q = and_parts (t.state == s) (t.forward == f) p in
     let wrong : takes_wrongly d t ≡ false = take_keeps d h k t g S12 in
     (eqb-true t.state s q.0, eqb-true t.forward f q.1, (or_parts (not (is_due d t.state t.forward)) (answers_wrongly d t) wrong).1, take_keeps d h k t g S14)
 
@@ -68,7 +68,7 @@ of_class d class f g e h = subst (λ n. has_class class d n ≡ true) (sym e) h
 -- where there is one, and it isn't another, it is this one
 this_one : (o : Option ℕ) (m n : ℕ) → o ≡ Some m → is_other o n ≡ false → o ≡ Some n
 this_one None m n e h = absurd cc
-this_one (Some k) m n e h = ap Some (eqb-true k n (not_false (k == n) h))
+this_one (Some k) m n e h = ap Some (eqb-true k n (not-false (k == n) h))
 
 is_none-some : (o : Option ℕ) → is_none o ≡ false → (m : ℕ) × (o ≡ Some m)
 is_none-some None h = absurd cc
@@ -178,7 +178,7 @@ to_owner : (d : Draft) → HasShape d → (n f k : ℕ) (r : RowLine) → slice_
 to_owner d h n f k r e dir passed kinds =
     let acts : acts_wrongly d n r.form ≡ false = subst (λ m. acts_wrongly d m r.form ≡ false) dir (row_keeps d h k r e S16) in
     let due : list_any (is_case d r.form) (cases_at d n) ≡ true =
-    subst (λ m. list_any (is_case d r.form) (cases_at d m) ≡ true) dir (not_false (list_any (is_case d r.form) (cases_at d r.dir)) (row_keeps d h k r e S15)) in
+    subst (λ m. list_any (is_case d r.form) (cases_at d m) ≡ true) dir (not-false (list_any (is_case d r.form) (cases_at d r.dir)) (row_keeps d h k r e S15)) in
     at r.form passed acts due
   where
     by : (request : ℕ) (w : Who) → acts_wrongly d n (form.Ask request w (action.Forward f)) ≡ false
@@ -192,14 +192,14 @@ to_owner d h n f k r e dir passed kinds =
             × ((is (request_of d Write) request && not (writes_by d n w (action.Forward f))) ≡ false)
             → is_to_owner d f ≡ true
         by_class (inl q) parts =
-            to_owner_read d n f (not_false (reads_by d n (action.Forward f)) (and_not (is (request_of d Read) request) (not (reads_by d n (action.Forward f))) parts.1 q)) kinds
+            to_owner_read d n f (not-false (reads_by d n (action.Forward f)) (and_not (is (request_of d Read) request) (not (reads_by d n (action.Forward f))) parts.1 q)) kinds
         by_class (inr q) parts =
-            to_owner_write d n f w (not_false (writes_by d n w (action.Forward f)) (and_not (is (request_of d Write) request) (not (writes_by d n w (action.Forward f))) parts.2 q)) kinds
+            to_owner_write d n f w (not-false (writes_by d n w (action.Forward f)) (and_not (is (request_of d Write) request) (not (writes_by d n w (action.Forward f))) parts.2 q)) kinds
 
     of_case : (request : ℕ) (w : Who) (a : DirCase) → is_case d (form.Ask request w (action.Forward f)) a ≡ true → is_due_case d n a ≡ true
         → (is (request_of d Read) request ≡ true) ⊎ (is (request_of d Write) request ≡ true)
     of_case request w (case.Evict v m) for due = absurd cc
-    of_case request w (case.Ask c v) for due = at_class (due_class_of d n c v due) (both (is (request_of d c) request) (same_who w v) for).0
+    of_case request w (case.Ask c v) for due = at_class (due_class_of d n c v due) (and_parts (is (request_of d c) request) (same_who w v) for).0
       where
         at_class : (c ≡ Read) ⊎ (c ≡ Write) → is (request_of d c) request ≡ true → (is (request_of d Read) request ≡ true) ⊎ (is (request_of d Write) request ≡ true)
         at_class (inl q) p = inl (subst (λ (x : ReqClass). is (request_of d x) request ≡ true) q p)
@@ -211,7 +211,7 @@ to_owner d h n f k r e dir passed kinds =
         let same : g ≡ f = same_Some g f passed in
         let (j, a, e, for) = any_get (is_case d (form.Ask request w (action.Forward g))) (cases_at d n) due in
         by request w (subst (λ x. acts_wrongly d n (form.Ask request w (action.Forward x)) ≡ false) same acts)
-        (of_case request w a for (any_at (same_case a) (cases_at d n) j a e (same_case_self a)))
+        (of_case request w a for (any_at (same_case a) (cases_at d n) j a e (case_same a)))
     at (form.Ask request w action.Count) passed acts due = absurd cc
     at (form.Evict w l) passed acts due = absurd cc
 
@@ -222,17 +222,9 @@ passed_due d h l n s f k r e dir passed at =
     let owner = l.lists_owners n s at in
     let to = to_owner d h n f k r e dir passed (has_owner d l n s at) in
     let this : is_passed_to d s f r ≡ true =
-    and_both (is (forward_in r.form) f) (lists d r.dir s) (ap (λ (o : Option ℕ). is o f) passed ∙ same_self f) (subst (λ m. lists d m s ≡ true) (sym dir) at) in
+    and_from (is (forward_in r.form) f) (lists d r.dir s) (ap (λ (o : Option ℕ). is o f) passed ∙ eq-eqb f f refl) (subst (λ m. lists d m s ≡ true) (sym dir) at) in
     or_so (is (shared d) s && is (forward_of d Inv) f) (cache_is (λ c. is_owner c.role) d s && is_to_owner d f && list_any (is_passed_to d s f) d.rows)
     (inr (three_both (cache_is (λ c. is_owner c.role) d s) (is_to_owner d f) (list_any (is_passed_to d s f) d.rows) owner to (any_at (is_passed_to d s f) d.rows k r e this)))
-  where
-    three_both : (a b c : Bool) → a ≡ true → b ≡ true → c ≡ true → (a && b && c) ≡ true
-    three_both true true c p q r = r
-    three_both true false c p q r = absurd cc
-    three_both false b c p q r = absurd cc
-
-    same_self : (m : ℕ) → (m == m) ≡ true
-    same_self m = eq-eqb m m refl
 
 pub takes : (d : Draft) → HasShape d → HasLists d → (s : ℕ) × (out d ≡ Some s) → HasTakes d
 takes d h l start = record {
@@ -247,15 +239,15 @@ takes d h l start = record {
       let (state, forward, right, moves) = taken d h s f t e in
       let wrong = and_not (has_class Share d t.forward) (shares_wrongly d t) (answering d t right).1 (of_class d Share f t.forward forward class) in
       let parts = or_parts (is_none t.reply) (not (is (shared d) t.next)) wrong in
-      (is_none-some t.reply parts.0, is_one (shared d) t.next (not_false (is (shared d) t.next) parts.1));
+      (is_none-some t.reply parts.0, is_one (shared d) t.next (not-false (is (shared d) t.next) parts.1));
   keep = λ s f t e class.
       let (state, forward, right, moves) = taken d h s f t e in
       let wrong = and_not (has_class Keep d t.forward) (keeps_wrongly d t) (answering d t right).2 (of_class d Keep f t.forward forward class) in
       let parts = three_not (is_none t.reply) (not (cache_is is_read_owner d t.next)) (cache_is (λ c. c.clean) d t.next && not (cache_is (λ c. c.clean) d t.state)) wrong in (
         is_none-some t.reply parts.0,
-        not_false (cache_is is_read_owner d t.next) parts.1,
+        not-false (cache_is is_read_owner d t.next) parts.1,
         λ clean. subst (λ n. cache_is (λ c. c.clean) d n ≡ true) state
-            (not_false (cache_is (λ c. c.clean) d t.state) (and_not (cache_is (λ c. c.clean) d t.next) (not (cache_is (λ c. c.clean) d t.state)) parts.2 clean)),
+            (not-false (cache_is (λ c. c.clean) d t.state) (and_not (cache_is (λ c. c.clean) d t.next) (not (cache_is (λ c. c.clean) d t.state)) parts.2 clean)),
       );
   drop = λ s f t e class.
       let (state, forward, right, moves) = taken d h s f t e in

@@ -1,4 +1,10 @@
--- The rules that a cache line breaks.
+-- The rules that the line of a cache state breaks.
+-- S1: out without `none`, shared without `read`, an owner with `none`.
+-- S2: a second out, a second shared, a 13th owner.
+-- S3: `clean` on a state that is no owner.
+-- S4: an owner that no dir line lists.
+-- S8: no core line for load, for store, or, at a state that isn't out, for evict.
+-- S13: a due pair of the state without a take line.
 use Rattle.std.specs.Prelude.{ℕ, Bool, false, not, ◌&&◌, ◌||◌, nat_le, List, length, take, is_none}
 use Rattle.std.specs.List.{list_any, filter}
 use Rattle.std.specs.Option.{option_map_or}
@@ -12,7 +18,7 @@ use Rattle.pg_perm.specs.declared.fault.Rule.TheVariants.{S1, S2, S3, S4, S8, S1
 use Rattle.pg_terms.specs.Terms.{is_out, is_shared, is_owner, is_none_perm, is_read_perm, is, out, shared, forward_of, lists_state, lists, core_row, take_row}
 use Rattle.pg_terms.specs.Due.{forward_in, is_to_owner}
 
--- out without none, shared without read, or an owner with none
+-- S1: out without none, shared without read, or an owner with none
 abbrev pub has_wrong_perm : CacheLine → Bool
 has_wrong_perm c = (is_out c.role && not (is_none_perm c.perm)) || (is_shared c.role && not (is_read_perm c.perm))
     || (is_owner c.role && is_none_perm c.perm)
@@ -27,12 +33,12 @@ has_shared above = list_any (λ c. is_shared c.role) above
 abbrev pub owners : List CacheLine → ℕ
 owners above = length (filter (λ c. is_owner c.role) above)
 
--- a second out, a second shared, or an owner below 12 others
+-- S2: a second out, a second shared, or an owner below 12 others
 abbrev pub is_one_too_many : List CacheLine → CacheLine → Bool
 is_one_too_many above c = (is_out c.role && has_out above) || (is_shared c.role && has_shared above)
     || (is_owner c.role && nat_le 12 (owners above))
 
--- clean, and no owner
+-- S3: clean, and no owner
 abbrev pub is_needlessly_clean : CacheLine → Bool
 is_needlessly_clean c = c.clean && not (is_owner c.role)
 
@@ -40,11 +46,11 @@ is_needlessly_clean c = c.clean && not (is_owner c.role)
 abbrev pub is_listed : Draft → ℕ → Bool
 is_listed d s = list_any (λ l. lists_state l.beside s) d.dirs
 
--- an owner that no directory state lists
+-- S4: an owner that no directory state lists
 abbrev pub is_unlisted : Draft → ℕ → CacheLine → Bool
 is_unlisted d s c = is_owner c.role && not (is_listed d s)
 
--- no core line for load, for store, or, at a state that isn't out, for evict
+-- S8: no core line for load, for store, or, at a state that isn't out, for evict
 abbrev pub lacks_core_lines : Draft → ℕ → Bool
 lacks_core_lines d s = is_none (core_row d s Load) || is_none (core_row d s Store) || (not (is (out d) s) && is_none (core_row d s Evict))
 
@@ -56,7 +62,7 @@ lacks_inv_line d s = option_map_or (λ f. is (shared d) s && is_none (take_row d
 abbrev pub lacks_answer : Draft → ℕ → RowLine → Bool
 lacks_answer d s r = option_map_or (λ f. is_to_owner d f && is_none (take_row d s f) && lists d r.dir s) (forward_in r.form) false
 
--- a due pair of this state without a take line: the pairs are those of `is_due`, found from the row lines that make them due
+-- S13: a due pair of this state without a take line: the pairs are those of `is_due`, found from the row lines that make them due
 abbrev pub lacks_take_lines : Draft → ℕ → CacheLine → Bool
 lacks_take_lines d s c = lacks_inv_line d s || (is_owner c.role && list_any (lacks_answer d s) d.rows)
 

@@ -1,4 +1,9 @@
 -- The rules that a core line breaks.
+-- S7: a form, a request, a reply or a final state that the event may not have in the state.
+-- S9: a case that an earlier line has.
+-- S10: a store hit to a state that is no dirty write owner, or that the directory tells apart.
+-- S11: an evict by a request of another class than the state may use.
+-- S19: a load that ends clean by a reply which a cache may send.
 use Rattle.std.specs.Prelude.{ℕ, zero, suc, Bool, true, false, not, ◌==◌, ◌&&◌, ◌||◌, List, [], ◌∷◌, length, slice_get, take, Some, None, is_some}
 use Rattle.std.specs.List.{list_any}
 use Rattle.std.specs.Option.{option_map_or}
@@ -154,14 +159,14 @@ ends_wrongly d Load (Ask request pairs) = list_any (λ p. is_no_load_final d p.f
 ends_wrongly d Store (Ask request pairs) = list_any (λ p. is_no_store_final d p.fin) pairs || ends_differ pairs
 ends_wrongly d _ _ = false
 
--- one of the points of S7
+-- S7: one of the points above
 abbrev pub breaks_s7 : Draft → CoreLine → Bool
 breaks_s7 d c = leaves_out d c || asks_needlessly d c || hits_without_perm d c || moves_at_load c.event c.form
     || asks_otherwise d c.event c.form || has_wrong_replies d c.state c.event c.form || ends_wrongly d c.event c.form
 
 -- The other rules
 
--- a core line above it is for the same state and event
+-- S9: a core line above it is for the same state and event
 abbrev pub has_core_line : List CoreLine → CoreLine → Bool
 has_core_line above c = list_any (λ x. (x.state == c.state) && same_event x.event c.event) above
 
@@ -169,7 +174,7 @@ has_core_line above c = list_any (λ x. (x.state == c.state) && same_event x.eve
 abbrev pub parts : ℕ → ℕ → DirLine → Bool
 parts s t l = (lists_state l.beside s && not (lists_state l.beside t)) || (not (lists_state l.beside s) && lists_state l.beside t)
 
--- a store hit of an owner that may write leads to a state that is none or is clean, or that the directory tells apart
+-- S10: a store hit of an owner that may write leads to a state that is none or is clean, or that the directory tells apart
 abbrev pub hits_wrongly : Draft → CoreLine → Bool
 hits_wrongly d c = option_map_or (λ t. cache_is is_write_owner d c.state && (not (cache_is is_dirty_writer d t) || list_any (parts c.state t) d.dirs))
     (store_next c.state c.event c.form) false
@@ -184,6 +189,7 @@ leaves_by_another d role.Out clean m = false
 leaves_by_another d role.Shared clean m = not (asks_class Clean d m)
 leaves_by_another d role.Owner clean m = not (asks_class Dirty d m || (clean && asks_class Clean d m))
 
+-- S11: an evict by a request of another class than its state may use
 abbrev pub leaves_wrongly : Draft → ℕ → CoreForm → Bool
 leaves_wrongly d s (Hit next) = false
 leaves_wrongly d s (Ask request pairs) = false
@@ -202,7 +208,7 @@ is_from_cache d (reply.Reply m) = is_sent d m
 abbrev pub is_unclean : Draft → Pair → Bool
 is_unclean d p = cache_is (λ c. c.clean) d p.fin && is_from_cache d p.reply
 
--- a load may end so
+-- S19: a load may end so
 abbrev pub ends_unclean : Draft → Event → CoreForm → Bool
 ends_unclean d Load (Ask request pairs) = list_any (is_unclean d) pairs
 ends_unclean d _ _ = false

@@ -1,4 +1,6 @@
--- The rules that a dir line breaks.
+-- The rules that the line of a directory state breaks.
+-- S4: a second idle, or a list of states that its kind may not have.
+-- S18: a due case of the state without a row line.
 use Rattle.std.specs.Prelude.{ℕ, Bool, true, false, not, ◌&&◌, ◌||◌, List, [], ◌∷◌, take, is_none, is_some}
 use Rattle.std.specs.List.{list_any}
 use Rattle.pg_perm.specs.declared.draft.Draft.{Draft}
@@ -48,7 +50,7 @@ mixes_a_writer d l = same_kind kind.Mixed l.kind && list_any (cache_is is_write_
 abbrev pub lacks_shared : Draft → DirLine → Bool
 lacks_shared d l = (same_kind kind.Shared l.kind || same_kind kind.Mixed l.kind) && is_none (shared d)
 
--- the points of S4 on dir lines
+-- S4: one of the points above
 abbrev pub lists_wrongly : Draft → List DirLine → DirLine → Bool
 lists_wrongly d above l = is_second_idle above l || lists_wrong_number l || has_twice l.beside || lists_another d l || mixes_a_writer d l || lacks_shared d l
 
@@ -57,7 +59,7 @@ abbrev pub lacks_row : Draft → ℕ → DirCase → Bool
 lacks_row d n (case.Ask class who) = is_some (request_of d class) && is_none (dir_row d n (case.Ask class who))
 lacks_row d n (case.Evict who left) = is_none (dir_row d n (case.Evict who left))
 
--- a due case of this state without a row line
+-- S18: a due case of this state without a row line
 abbrev pub lacks_rows : Draft → ℕ → Bool
 lacks_rows d n = list_any (lacks_row d n) (cases_at d n)
 

@@ -1,4 +1,5 @@
--- The directory state that each row line leads to.
+-- The rule on the directory state to which a row line leads.
+-- S17: a next state that isn't the one of the table in docs/TEXT.md.
 use Rattle.std.specs.Prelude.{ℕ, Bool, true, not, ◌&&◌, ◌||◌, List, Option, None}
 use Rattle.std.specs.List.{list_all}
 use Rattle.std.specs.Option.{option_map_or, option_and_then}
@@ -148,7 +149,7 @@ evicts_rightly d r Other left = true
 evicts_rightly d r Sharer left = (not (kind_is kind.Shared d r.dir) || leaves_rightly d r left) && (not (kind_is kind.Mixed d r.dir) || keeps_owner d r left)
 evicts_rightly d r Owner left = leaves_rightly d r left
 
--- a row line of this form leads to a directory state that it may
+-- a row line of this form leads to a directory state that it may; else it breaks S17
 abbrev pub leads_rightly : Draft → RowLine → RowForm → Bool
 leads_rightly d r (form.Ask request who action) = (not (is (request_of d Read) request) || reads_rightly d r who action)
     && (not (is (request_of d Write) request) || writes_rightly d r who action)

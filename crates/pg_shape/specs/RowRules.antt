@@ -1,4 +1,8 @@
 -- The rules that a row line breaks.
+-- S9: a case that an earlier line has.
+-- S15: a case that isn't due.
+-- S16: an action that the case may not have in a directory state of this kind.
+-- S17: a next state that it may not lead to, which NextRules has.
 use Rattle.std.specs.Prelude.{ℕ, Bool, true, false, not, ◌==◌, ◌&&◌, ◌||◌, List, take}
 use Rattle.std.specs.List.{list_any}
 use Rattle.pg_perm.specs.declared.kinds.DirKind.TheVariants as kind
@@ -25,11 +29,11 @@ same_words (form.Ask request who action) (form.Ask q w a) = (request == q) && sa
 same_words (form.Evict who left) (form.Evict w l) = same_who who w && same_left left l
 same_words _ _ = false
 
--- a row line above it is for the same
+-- S9: a row line above it is for the same
 abbrev pub has_row_line : List RowLine → RowLine → Bool
 has_row_line above r = list_any (λ x. (x.dir == r.dir) && same_words x.form r.form) above
 
--- it is for no case that is due
+-- S15: it is for no case that is due
 abbrev pub is_not_due : Draft → RowLine → Bool
 is_not_due d r = not (list_any (is_case d r.form) (cases_at d r.dir))
 
@@ -60,7 +64,7 @@ writes_by d n Other action = not (kind_is kind.Owned d n || kind_is kind.Mixed d
 writes_by d n Sharer action = not (kind_is kind.Owned d n || kind_is kind.Mixed d n) || forwards Drop d action
 writes_by d n Owner action = is_count action
 
--- the action is none that the case may have
+-- S16: the action is none that the case may have
 abbrev pub acts_wrongly : Draft → ℕ → RowForm → Bool
 acts_wrongly d n (form.Ask request who action) = ((kind_is kind.Idle d n || kind_is kind.Shared d n) && not (is_reply action))
     || (is (request_of d Read) request && not (reads_by d n action)) || (is (request_of d Write) request && not (writes_by d n who action))

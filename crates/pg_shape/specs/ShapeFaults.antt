@@ -4,7 +4,6 @@ use Rattle.pg_perm.specs.declared.draft.Draft.{Draft}
 use Rattle.pg_perm.specs.declared.fault.Fault.{Fault}
 use Rattle.pg_perm.specs.declared.fault.Rule.{Rule}
 use Rattle.pg_perm.specs.Rules.{IsNoLater}
-use Rattle.pg_perm.specs.Drafts.{IsWellFormed}
 use Rattle.pg_shape.specs.TextRules.{text_breaks}
 use Rattle.pg_shape.specs.CacheRules.{cache_breaks}
 use Rattle.pg_shape.specs.DirRules.{dir_breaks}
@@ -32,8 +31,3 @@ pub record HasShape (d : Draft) : Type 0 where
 pub record IsShapeFault (d : Draft) (f : Fault) : Type 0 where
   pub broken : BreaksShape d f.line f.rule
   pub least : (L : ℕ) (R : Rule) → BreaksShape d L R → IsNoLater f L R
-
--- the draft of a protocol
-pub record IsProtocol (d : Draft) : Type 0 where
-  pub well_formed : IsWellFormed d
-  pub shape : HasShape d

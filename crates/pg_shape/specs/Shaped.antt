@@ -21,6 +21,7 @@ use Rattle.pg_perm.specs.declared.draft.ReplyName.TheVariants as reply
 use Rattle.pg_perm.specs.declared.draft.TakeLine.{TakeLine}
 use Rattle.pg_perm.specs.declared.draft.RowLine.{RowLine}
 use Rattle.pg_perm.specs.declared.draft.Action.TheVariants as action
+use Rattle.pg_perm.specs.Drafts.{IsWellFormed}
 use Rattle.pg_terms.specs.declared.cases.DirCase.{DirCase}
 use Rattle.pg_terms.specs.declared.cases.DirCase.TheVariants as case
 use Rattle.pg_terms.specs.Terms.{is_out, is_shared, is_owner, is_none_perm, is_read_perm, is_read_owner, is_write_owner, cache_is, out, shared, request_of, forward_of, has_class, lists, core_row, take_row, dir_row, keep_of}
@@ -29,6 +30,7 @@ use Rattle.pg_shape.specs.DirRules.{has_no_owner}
 use Rattle.pg_shape.specs.CoreRules.{is_hit, is_dirty_writer, stays, asks_class, is_from_cache}
 use Rattle.pg_terms.specs.Rows.{allows, store_next, may_keep, final_under, action_in}
 use Rattle.pg_shape.specs.NextRules.{final_of, final_by, upgrade_of}
+use Rattle.pg_shape.specs.ShapeFaults.{HasShape}
 
 -- the line of a cache state
 abbrev pub IsCache : Draft → ℕ → CacheLine → Type 0
@@ -179,3 +181,9 @@ pub record IsShaped (d : Draft) : Type 0 where
   pub writes : HasWrites d
   pub evicts : HasEvicts d
   pub cores : HasCores d
+
+-- the draft of a protocol: it is well formed, no line breaks a rule of the shape, and so it has all that the shape gives
+pub record IsProtocol (d : Draft) : Type 0 where
+  pub well_formed : IsWellFormed d
+  pub shape : HasShape d
+  pub shaped : IsShaped d

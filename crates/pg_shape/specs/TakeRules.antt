@@ -1,4 +1,7 @@
 -- The rules that a take line breaks.
+-- S9: a case that an earlier line has.
+-- S12: a pair that isn't due, or a reply or next state that the forward's class doesn't ask for.
+-- S14: a keep line whose next state may get the keep forward and is led on to another state by it.
 use Rattle.std.specs.Prelude.{ℕ, Bool, false, not, ◌==◌, ◌&&◌, ◌||◌, List, take, is_none, is_some}
 use Rattle.std.specs.List.{list_any}
 use Rattle.pg_perm.specs.declared.draft.Draft.{Draft}
@@ -10,7 +13,7 @@ use Rattle.pg_terms.specs.Terms.{is, is_other, is_read_owner, cache_is, out, sha
 use Rattle.pg_terms.specs.Due.{is_due}
 use Rattle.pg_terms.specs.Rows.{may_keep}
 
--- a take line above it is for the same state and forward
+-- S9: a take line above it is for the same state and forward
 abbrev pub has_take_line : List TakeLine → TakeLine → Bool
 has_take_line above t = list_any (λ x. (x.state == t.state) && (x.forward == t.forward)) above
 
@@ -36,10 +39,11 @@ abbrev pub answers_wrongly : Draft → TakeLine → Bool
 answers_wrongly d t = (has_class Inv d t.forward && invalidates_wrongly d t) || (has_class Share d t.forward && shares_wrongly d t)
     || (has_class Keep d t.forward && keeps_wrongly d t) || (has_class Drop d t.forward && drops_wrongly d t)
 
+-- S12: the pair isn't due, or the line isn't what its forward asks for
 abbrev pub takes_wrongly : Draft → TakeLine → Bool
 takes_wrongly d t = not (is_due d t.state t.forward) || answers_wrongly d t
 
--- the keep forward leads to a state that it then leads to another
+-- S14: the keep forward leads to a state that it then leads to another
 abbrev pub keeps_moving : Draft → TakeLine → Bool
 keeps_moving d t = has_class Keep d t.forward && may_keep d t.next && is_other (keep_of d t.next) t.next
 

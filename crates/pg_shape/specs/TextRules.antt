@@ -1,4 +1,8 @@
 -- The rules that the protocol line breaks: what the whole text lacks.
+-- S2: no out state, or no write owner.
+-- S4: no idle directory state, or a shared cache state and no directory state of kind shared.
+-- S5: no READ, or no WRITE.
+-- S6: a shared state without inv.
 use Rattle.std.specs.Prelude.{Bool, false, not, ◌&&◌, ◌||◌, is_none, is_some}
 use Rattle.std.specs.List.{list_any}
 use Rattle.pg_perm.specs.declared.draft.Draft.{Draft}
@@ -11,7 +15,7 @@ use Rattle.pg_perm.specs.declared.fault.Rule.TheVariants.{S2, S4, S5, S6}
 use Rattle.pg_terms.specs.Terms.{is_write_owner, out, shared, request_of, forward_of}
 use Rattle.pg_terms.specs.Due.{same_kind}
 
--- there is no out state, or no owner that may write
+-- S2: there is no out state, or no owner that may write
 abbrev pub lacks_states : Draft → Bool
 lacks_states d = is_none (out d) || not (list_any is_write_owner d.caches)
 
@@ -19,15 +23,15 @@ lacks_states d = is_none (out d) || not (list_any is_write_owner d.caches)
 abbrev pub has_kind : DirKind → Draft → Bool
 has_kind k d = list_any (λ l. same_kind k l.kind) d.dirs
 
--- there is no idle directory state, or there is a shared state and no directory state of kind shared
+-- S4: there is no idle directory state, or there is a shared state and no directory state of kind shared
 abbrev pub lacks_dirs : Draft → Bool
 lacks_dirs d = not (has_kind kind.Idle d) || (is_some (shared d) && not (has_kind kind.Shared d))
 
--- there is no READ, or no WRITE
+-- S5: there is no READ, or no WRITE
 abbrev pub lacks_requests : Draft → Bool
 lacks_requests d = is_none (request_of d Read) || is_none (request_of d Write)
 
--- there is a shared state and no inv forward
+-- S6: there is a shared state and no inv forward
 abbrev pub lacks_inv : Draft → Bool
 lacks_inv d = is_some (shared d) && is_none (forward_of d Inv)
 

@@ -1,3 +1,11 @@
+//! The rules that the line of a cache state breaks.
+//!
+//! S1: out without `none`, shared without `read`, an owner with `none`.
+//! S2: a second out, a second shared, a 13th owner.
+//! S3: `clean` on a state that is no owner.
+//! S4: an owner that no dir line lists.
+//! S8: no core line for load, for store, or, at a state that isn't out, for evict.
+//! S13: a due pair of the state without a take line.
 ghost use Rattle.std.specs.Prelude.{◌≡◌, ◌≤◌, length};
 ghost use Rattle.std.specs.List.{list_any};
 ghost use Rattle.pg_terms.specs.Terms as term;
@@ -53,7 +61,7 @@ fn is_needlessly_clean(line: &CacheLine) -> bool
     line.clean && !is_owner(line.role)
 }
 
-fn is_listed(draft: &Draft, state: usize) -> bool
+fn is_listed(draft: &Draft, state: u8) -> bool
     ensures { result ≡ cache.is_listed draft.now state }
 {
     draft
@@ -63,13 +71,13 @@ fn is_listed(draft: &Draft, state: usize) -> bool
         .any(|line| lists_state(line.beside.as_slice(), state))
 }
 
-fn is_unlisted(draft: &Draft, state: usize, line: &CacheLine) -> bool
+fn is_unlisted(draft: &Draft, state: u8, line: &CacheLine) -> bool
     ensures { result ≡ cache.is_unlisted draft.now state line.now }
 {
     is_owner(line.role) && !is_listed(draft, state)
 }
 
-fn lacks_core_lines(draft: &Draft, state: usize) -> bool
+fn lacks_core_lines(draft: &Draft, state: u8) -> bool
     ensures { result ≡ cache.lacks_core_lines draft.now state }
 {
     core_row(draft, state, Event::Load).is_none()
@@ -77,29 +85,30 @@ fn lacks_core_lines(draft: &Draft, state: usize) -> bool
         || (!is(out(draft), state) && core_row(draft, state, Event::Evict).is_none())
 }
 
-fn lacks_inv_line(draft: &Draft, state: usize) -> bool
+fn lacks_inv_line(draft: &Draft, state: u8) -> bool
+    requires { length draft.now.messages ≤ 32 }
     ensures { result ≡ cache.lacks_inv_line draft.now state }
 {
     match forward_of(draft, FwdClass::Inv) {
-        Some(inv) => is(shared(draft), state) && take_row(draft, state, inv).is_none(),
+        Some(inv) => is(shared(draft), state) && take_row(draft, state, inv as u8).is_none(),
         None => false,
     }
 }
 
-fn lacks_answer(draft: &Draft, state: usize, row: &RowLine) -> bool
+fn lacks_answer(draft: &Draft, state: u8, row: &RowLine) -> bool
     ensures { result ≡ cache.lacks_answer draft.now state row.now }
 {
     match forward_in(row.form) {
         Some(forward) => {
             is_to_owner(draft, forward)
                 && take_row(draft, state, forward).is_none()
-                && lists(draft, usize::from(row.dir), state)
+                && lists(draft, row.dir, state)
         }
         None => false,
     }
 }
 
-fn lacks_answers(draft: &Draft, state: usize) -> bool
+fn lacks_answers(draft: &Draft, state: u8) -> bool
     ensures { result ≡ list_any (cache.lacks_answer draft.now state) draft.now.rows }
 {
     draft
@@ -109,21 +118,23 @@ fn lacks_answers(draft: &Draft, state: usize) -> bool
         .any(|row| lacks_answer(draft, state, row))
 }
 
-fn lacks_take_lines(draft: &Draft, state: usize, line: &CacheLine) -> bool
+fn lacks_take_lines(draft: &Draft, state: u8, line: &CacheLine) -> bool
+    requires { length draft.now.messages ≤ 32 }
     ensures { result ≡ cache.lacks_take_lines draft.now state line.now }
 {
     lacks_inv_line(draft, state) || (is_owner(line.role) && lacks_answers(draft, state))
 }
 
 /// The first rule that the line of a cache state breaks.
-pub fn cache_rule(draft: &Draft, state: usize, line: &CacheLine) -> Option<Rule>
-    requires { state ≤ length draft.now.caches }
+pub fn cache_rule(draft: &Draft, state: u8, line: &CacheLine) -> Option<Rule>
+    requires below { state ≤ length draft.now.caches }
+    requires messages { length draft.now.messages ≤ 32 }
     ensures { result ≡ first_rule (cache.cache_breaks draft.now state line.now) }
 {
     if has_wrong_perm(line) {
         return Some(Rule::S1);
     }
-    if is_one_too_many(&draft.caches.as_slice()[..state], line) {
+    if is_one_too_many(&draft.caches.as_slice()[..usize::from(state)], line) {
         return Some(Rule::S2);
     }
     if is_needlessly_clean(line) {

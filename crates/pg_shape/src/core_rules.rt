@@ -1,3 +1,10 @@
+//! The rules that a core line breaks.
+//!
+//! S7: a form, a request, a reply or a final state that the event may not have in the state.
+//! S9: a case that an earlier line has.
+//! S10: a store hit to a state that is no dirty write owner, or that the directory tells apart.
+//! S11: an evict by a request of another class than the state may use.
+//! S19: a load that ends clean by a reply which a cache may send.
 ghost use Rattle.std.specs.Prelude.{◌≡◌, ◌≤◌, length, not};
 ghost use Rattle.std.specs.List.{list_any};
 ghost use Rattle.pg_terms.specs.Terms as term;
@@ -24,40 +31,40 @@ fn is_hit(form: &CoreForm) -> bool
     }
 }
 
-fn is_out_state(draft: &Draft, state: usize) -> bool
+fn is_out_state(draft: &Draft, state: u8) -> bool
     ensures { result ≡ term.cache_is (λ c. term.is_out c.role) draft.now state }
 {
     draft
         .caches
-        .get(state)
+        .get(usize::from(state))
         .is_some_and(|cache| is_out(cache.role))
 }
 
 fn leaves_out(draft: &Draft, line: &CoreLine) -> bool
     ensures { result ≡ rule.leaves_out draft.now line.now }
 {
-    line.event == Event::Evict && is_out_state(draft, usize::from(line.state))
+    line.event == Event::Evict && is_out_state(draft, line.state)
 }
 
-fn is_not_allowed(draft: &Draft, event: Event, state: usize) -> bool
+fn is_not_allowed(draft: &Draft, event: Event, state: u8) -> bool
     ensures { result ≡ term.cache_is (λ c. not (says.allows event c)) draft.now state }
 {
     draft
         .caches
-        .get(state)
+        .get(usize::from(state))
         .is_some_and(|cache| !allows(event, cache))
 }
 
 fn asks_needlessly(draft: &Draft, line: &CoreLine) -> bool
     ensures { result ≡ rule.asks_needlessly draft.now line.now }
 {
-    is_allowed(draft, line.event, usize::from(line.state)) && !is_hit(&line.form)
+    is_allowed(draft, line.event, line.state) && !is_hit(&line.form)
 }
 
 fn hits_without_perm(draft: &Draft, line: &CoreLine) -> bool
     ensures { result ≡ rule.hits_without_perm draft.now line.now }
 {
-    is_not_allowed(draft, line.event, usize::from(line.state)) && is_hit(&line.form)
+    is_not_allowed(draft, line.event, line.state) && is_hit(&line.form)
 }
 
 fn moves_at_load(event: Event, form: &CoreForm) -> bool
@@ -83,9 +90,7 @@ fn asks_otherwise(draft: &Draft, event: Event, form: &CoreForm) -> bool
     ensures { result ≡ rule.asks_otherwise draft.now event form.now }
 {
     match form {
-        CoreForm::Ask { request, .. } => {
-            is_other(request_of(draft, class_of(event)), usize::from(*request))
-        }
+        CoreForm::Ask { request, .. } => { is_other(request_of(draft, class_of(event)), *request) }
         _ => false,
     }
 }
@@ -94,12 +99,8 @@ fn is_asked_by_store(draft: &Draft, role: Role, name: ReplyName) -> bool
     ensures { result ≡ rule.is_asked_by_store draft.now role name }
 {
     match (role, name) {
-        (Role::Out, ReplyName::Reply(reply)) => {
-            is_store_reply(draft, Who::Other, usize::from(reply))
-        }
-        (Role::Shared, ReplyName::Reply(reply)) => {
-            is_store_reply(draft, Who::Sharer, usize::from(reply))
-        }
+        (Role::Out, ReplyName::Reply(reply)) => { is_store_reply(draft, Who::Other, reply) }
+        (Role::Shared, ReplyName::Reply(reply)) => { is_store_reply(draft, Who::Sharer, reply) }
         (Role::Owner, ReplyName::AckCount) => true,
         _ => false,
     }
@@ -109,7 +110,7 @@ fn is_asked_by_load(draft: &Draft, name: ReplyName) -> bool
     ensures { result ≡ rule.is_asked_by_load draft.now name }
 {
     match name {
-        ReplyName::Reply(reply) => is_load_reply(draft, usize::from(reply)),
+        ReplyName::Reply(reply) => is_load_reply(draft, reply),
         ReplyName::AckCount => false,
     }
 }
@@ -188,17 +189,17 @@ fn names_wrongly(draft: &Draft, role: Role, event: Event, pairs: &[Pair]) -> boo
         || misses_reply(draft, role, event, pairs)
 }
 
-fn state_names_wrongly(draft: &Draft, state: usize, event: Event, pairs: &[Pair]) -> bool
+fn state_names_wrongly(draft: &Draft, state: u8, event: Event, pairs: &[Pair]) -> bool
     requires { length draft.now.messages ≤ 32 }
     ensures { result ≡ term.cache_is (λ c. rule.names_wrongly draft.now c.role event pairs.now) draft.now state }
 {
-    match draft.caches.get(state) {
+    match draft.caches.get(usize::from(state)) {
         Some(cache) => names_wrongly(draft, cache.role, event, pairs),
         None => false,
     }
 }
 
-fn has_wrong_replies(draft: &Draft, state: usize, event: Event, form: &CoreForm) -> bool
+fn has_wrong_replies(draft: &Draft, state: u8, event: Event, form: &CoreForm) -> bool
     requires { length draft.now.messages ≤ 32 }
     ensures { result ≡ rule.has_wrong_replies draft.now state event form.now }
 {
@@ -211,7 +212,7 @@ fn has_wrong_replies(draft: &Draft, state: usize, event: Event, form: &CoreForm)
     }
 }
 
-fn is_no_load_final(draft: &Draft, state: usize) -> bool
+fn is_no_load_final(draft: &Draft, state: u8) -> bool
     ensures { result ≡ rule.is_no_load_final draft.now state }
 {
     !(is(shared(draft), state) || is_owner_state(draft, state))
@@ -223,23 +224,26 @@ fn is_dirty_writer(cache: &CacheLine) -> bool
     is_write_owner(cache) && !cache.clean
 }
 
-fn is_dirty_writer_state(draft: &Draft, state: usize) -> bool
+fn is_dirty_writer_state(draft: &Draft, state: u8) -> bool
     ensures { result ≡ term.cache_is rule.is_dirty_writer draft.now state }
 {
-    draft.caches.get(state).is_some_and(is_dirty_writer)
+    draft
+        .caches
+        .get(usize::from(state))
+        .is_some_and(is_dirty_writer)
 }
 
-fn stays(state: usize, form: &CoreForm) -> bool
+fn stays(state: u8, form: &CoreForm) -> bool
     ensures { result ≡ rule.stays state form.now }
 {
     match form {
         CoreForm::Hit(None) => true,
-        CoreForm::Hit(Some(next)) => usize::from(*next) == state,
+        CoreForm::Hit(Some(next)) => *next == state,
         _ => false,
     }
 }
 
-fn moves_at_store(draft: &Draft, state: usize) -> bool
+fn moves_at_store(draft: &Draft, state: u8) -> bool
     ensures { result ≡ rule.moves_at_store draft.now state }
 {
     match core_row(draft, state, Event::Store) {
@@ -248,7 +252,7 @@ fn moves_at_store(draft: &Draft, state: usize) -> bool
     }
 }
 
-fn is_no_store_final(draft: &Draft, state: usize) -> bool
+fn is_no_store_final(draft: &Draft, state: u8) -> bool
     ensures { result ≡ rule.is_no_store_final draft.now state }
 {
     !is_dirty_writer_state(draft, state) || moves_at_store(draft, state)
@@ -272,17 +276,13 @@ fn ends_differ(pairs: &[Pair]) -> bool
 fn has_no_load_final(draft: &Draft, pairs: &[Pair]) -> bool
     ensures { result ≡ list_any (λ p. rule.is_no_load_final draft.now p.fin) pairs.now }
 {
-    pairs
-        .iter()
-        .any(|pair| is_no_load_final(draft, usize::from(pair.fin)))
+    pairs.iter().any(|pair| is_no_load_final(draft, pair.fin))
 }
 
 fn has_no_store_final(draft: &Draft, pairs: &[Pair]) -> bool
     ensures { result ≡ list_any (λ p. rule.is_no_store_final draft.now p.fin) pairs.now }
 {
-    pairs
-        .iter()
-        .any(|pair| is_no_store_final(draft, usize::from(pair.fin)))
+    pairs.iter().any(|pair| is_no_store_final(draft, pair.fin))
 }
 
 fn ends_wrongly(draft: &Draft, event: Event, form: &CoreForm) -> bool
@@ -307,7 +307,7 @@ fn breaks_s7(draft: &Draft, line: &CoreLine) -> bool
         || hits_without_perm(draft, line)
         || moves_at_load(line.event, &line.form)
         || asks_otherwise(draft, line.event, &line.form)
-        || has_wrong_replies(draft, usize::from(line.state), line.event, &line.form)
+        || has_wrong_replies(draft, line.state, line.event, &line.form)
         || ends_wrongly(draft, line.event, &line.form)
 }
 
@@ -317,13 +317,13 @@ fn has_core_line(above: &[CoreLine], line: &CoreLine) -> bool
     above.iter().any(|other| other.state == line.state && other.event == line.event)
 }
 
-fn parts(state: usize, other: usize, line: &DirLine) -> bool
+fn parts(state: u8, other: u8, line: &DirLine) -> bool
     ensures { result ≡ rule.parts state other line.now }
 {
     lists_state(line.beside.as_slice(), state) != lists_state(line.beside.as_slice(), other)
 }
 
-fn are_parted(draft: &Draft, state: usize, other: usize) -> bool
+fn are_parted(draft: &Draft, state: u8, other: u8) -> bool
     ensures { result ≡ list_any (rule.parts state other) draft.now.dirs }
 {
     draft
@@ -336,27 +336,25 @@ fn are_parted(draft: &Draft, state: usize, other: usize) -> bool
 fn hits_wrongly(draft: &Draft, line: &CoreLine) -> bool
     ensures { result ≡ rule.hits_wrongly draft.now line.now }
 {
-    let state = usize::from(line.state);
     match store_next(line.state, line.event, &line.form) {
         Some(next) => {
-            let next = usize::from(next);
-            is_write_owner_state(draft, state)
-                && (!is_dirty_writer_state(draft, next) || are_parted(draft, state, next))
+            is_write_owner_state(draft, line.state)
+                && (!is_dirty_writer_state(draft, next) || are_parted(draft, line.state, next))
         }
         None => false,
     }
 }
 
-fn asks_class(class: ReqClass, draft: &Draft, message: usize) -> bool
+fn asks_class(class: ReqClass, draft: &Draft, message: u8) -> bool
     ensures { result ≡ rule.asks_class class draft.now message }
 {
     draft
         .messages
-        .get(message)
+        .get(usize::from(message))
         .is_some_and(|line| is_request_of(class, line.class))
 }
 
-fn leaves_by_another(draft: &Draft, role: Role, clean: bool, request: usize) -> bool
+fn leaves_by_another(draft: &Draft, role: Role, clean: bool, request: u8) -> bool
     ensures { result ≡ rule.leaves_by_another draft.now role clean request }
 {
     match role {
@@ -369,18 +367,18 @@ fn leaves_by_another(draft: &Draft, role: Role, clean: bool, request: usize) -> 
     }
 }
 
-fn leaves_wrongly(draft: &Draft, state: usize, form: &CoreForm) -> bool
+fn leaves_wrongly(draft: &Draft, state: u8, form: &CoreForm) -> bool
     ensures { result ≡ rule.leaves_wrongly draft.now state form.now }
 {
-    match (draft.caches.get(state), form) {
+    match (draft.caches.get(usize::from(state)), form) {
         (Some(cache), CoreForm::Leave { request }) => {
-            leaves_by_another(draft, cache.role, cache.clean, usize::from(*request))
+            leaves_by_another(draft, cache.role, cache.clean, *request)
         }
         _ => false,
     }
 }
 
-fn is_sent(draft: &Draft, reply: usize) -> bool
+fn is_sent(draft: &Draft, reply: u8) -> bool
     ensures { result ≡ rule.is_sent draft.now reply }
 {
     draft
@@ -394,7 +392,7 @@ fn is_from_cache(draft: &Draft, name: ReplyName) -> bool
     ensures { result ≡ rule.is_from_cache draft.now name }
 {
     match name {
-        ReplyName::Reply(reply) => is_sent(draft, usize::from(reply)),
+        ReplyName::Reply(reply) => is_sent(draft, reply),
         ReplyName::AckCount => false,
     }
 }
@@ -402,7 +400,7 @@ fn is_from_cache(draft: &Draft, name: ReplyName) -> bool
 fn is_unclean(draft: &Draft, pair: Pair) -> bool
     ensures { result ≡ rule.is_unclean draft.now pair }
 {
-    is_clean_state(draft, usize::from(pair.fin)) && is_from_cache(draft, pair.reply)
+    is_clean_state(draft, pair.fin) && is_from_cache(draft, pair.reply)
 }
 
 fn has_unclean(draft: &Draft, pairs: &[Pair]) -> bool
@@ -435,7 +433,7 @@ pub fn core_rule(draft: &Draft, number: usize, line: &CoreLine) -> Option<Rule>
     if hits_wrongly(draft, line) {
         return Some(Rule::S10);
     }
-    if leaves_wrongly(draft, usize::from(line.state), &line.form) {
+    if leaves_wrongly(draft, line.state, &line.form) {
         return Some(Rule::S11);
     }
     if ends_unclean(draft, line.event, &line.form) {

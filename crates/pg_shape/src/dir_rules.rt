@@ -1,3 +1,7 @@
+//! The rules that the line of a directory state breaks.
+//!
+//! S4: a second idle, or a list of states that its kind may not have.
+//! S18: a due case of the state without a row line.
 ghost use Rattle.std.specs.Prelude.{◌≡◌, ◌≤◌, length};
 ghost use Rattle.std.specs.List.{list_any};
 ghost use Rattle.pg_terms.specs.Terms as term;
@@ -39,7 +43,7 @@ fn has_twice(states: &[u8]) -> bool
 {
     let mut left = states;
     while let Some((state, rest)) = left.split_first() {
-        if lists_state(rest, usize::from(*state)) {
+        if lists_state(rest, *state) {
             return true;
         }
         left = rest;
@@ -53,7 +57,7 @@ fn lists_another(draft: &Draft, line: &DirLine) -> bool
     line.beside
         .as_slice()
         .iter()
-        .any(|state| !is_owner_state(draft, usize::from(*state)))
+        .any(|state| !is_owner_state(draft, *state))
 }
 
 fn lists_writer(draft: &Draft, states: &[u8]) -> bool
@@ -61,7 +65,7 @@ fn lists_writer(draft: &Draft, states: &[u8]) -> bool
 {
     states
         .iter()
-        .any(|state| is_write_owner_state(draft, usize::from(*state)))
+        .any(|state| is_write_owner_state(draft, *state))
 }
 
 fn mixes_a_writer(draft: &Draft, line: &DirLine) -> bool
@@ -87,7 +91,7 @@ fn lists_wrongly(draft: &Draft, above: &[DirLine], line: &DirLine) -> bool
         || lacks_shared(draft, line)
 }
 
-fn lacks_row(draft: &Draft, dir: usize, at: DirCase) -> bool
+fn lacks_row(draft: &Draft, dir: u8, at: DirCase) -> bool
     ensures { result ≡ rule.lacks_row draft.now dir at }
 {
     match at {
@@ -98,7 +102,7 @@ fn lacks_row(draft: &Draft, dir: usize, at: DirCase) -> bool
     }
 }
 
-fn lacks_rows(draft: &Draft, dir: usize) -> bool
+fn lacks_rows(draft: &Draft, dir: u8) -> bool
     ensures { result ≡ rule.lacks_rows draft.now dir }
 {
     cases_at(draft, dir)
@@ -107,11 +111,11 @@ fn lacks_rows(draft: &Draft, dir: usize) -> bool
 }
 
 /// The first rule that the line of a directory state breaks.
-pub fn dir_rule(draft: &Draft, dir: usize, line: &DirLine) -> Option<Rule>
+pub fn dir_rule(draft: &Draft, dir: u8, line: &DirLine) -> Option<Rule>
     requires { dir ≤ length draft.now.dirs }
     ensures { result ≡ first_rule (rule.dir_breaks draft.now dir line.now) }
 {
-    if lists_wrongly(draft, &draft.dirs.as_slice()[..dir], line) {
+    if lists_wrongly(draft, &draft.dirs.as_slice()[..usize::from(dir)], line) {
         return Some(Rule::S4);
     }
     if lacks_rows(draft, dir) {

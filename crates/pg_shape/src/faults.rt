@@ -35,6 +35,8 @@ trait Judged {
     /// The first rule that it breaks.
     fn first_rule(&self, draft: &Draft, number: usize) -> Option<Rule>
         requires kin { number ≤ length (kin draft.now) }
+        requires caches { length draft.now.caches ≤ 16 }
+        requires dirs { length draft.now.dirs ≤ 16 }
         requires messages { length draft.now.messages ≤ 32 }
         ensures { result ≡ first.first_rule (breaks draft.now number self.now) };
 }
@@ -51,7 +53,7 @@ impl Judged for CacheLine {
     }
 
     fn first_rule(&self, draft: &Draft, number: usize) -> Option<Rule> {
-        cache_rule(draft, number, self)
+        cache_rule(draft, number as u8, self)
     }
 }
 
@@ -67,7 +69,7 @@ impl Judged for DirLine {
     }
 
     fn first_rule(&self, draft: &Draft, number: usize) -> Option<Rule> {
-        dir_rule(draft, number, self)
+        dir_rule(draft, number as u8, self)
     }
 }
 
@@ -138,6 +140,8 @@ impl Judged for RowLine {
 /// The first fault among lines, which are all of their kind.
 fn first_in<L: Judged>(draft: &Draft, lines: &[L]) -> Option<Fault>
     requires kin { lines.now ≡ L.kin draft.now }
+    requires caches { length draft.now.caches ≤ 16 }
+    requires dirs { length draft.now.dirs ≤ 16 }
     requires messages { length draft.now.messages ≤ 32 }
     ensures { result ≡ first.first_in L.line (L.breaks draft.now) 0 lines.now }
 {
@@ -168,7 +172,9 @@ fn text_fault(draft: &Draft) -> Option<Fault>
 
 /// The first fault of the shape.
 pub fn shape_fault(draft: &Draft) -> Option<Fault>
-    requires { length draft.now.messages ≤ 32 }
+    requires caches { length draft.now.caches ≤ 16 }
+    requires dirs { length draft.now.dirs ≤ 16 }
+    requires messages { length draft.now.messages ≤ 32 }
     ensures { result ≡ first.shape_fault draft.now }
 {
     text_fault(draft)

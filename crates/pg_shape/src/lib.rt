@@ -4,7 +4,6 @@
 #![tactic(auto)]
 
 mod cache_rules;
-mod copy;
 mod core_rules;
 mod dir_rules;
 mod error;

@@ -1,5 +1,9 @@
+//! The rule on the directory state to which a row line leads.
+//!
+//! S17: a next state of a row line that isn't the one of the table in docs/TEXT.md.
 ghost use Rattle.std.specs.Prelude.{◌≡◌};
 ghost use Rattle.std.specs.Option.{option_copied};
+ghost use Rattle.pg_terms.specs.Terms as term;
 ghost use Rattle.pg_shape.specs.NextRules as rule;
 
 use pg_perm::{
@@ -11,56 +15,61 @@ use pg_terms::{
     listed, lists, out, reply_to, request_of, shared,
 };
 
+/// The core row of the state at a place.
+fn core_row_at<'a>(draft: &'a Draft, place: usize, event: Event) -> Option<&'a CoreLine>
+    ensures { option_copied result ≡ term.core_row draft.now place event }
+{
+    draft.cores.as_slice().iter().find(|line| usize::from(line.state) == place
+        && line.event == event)
+}
+
 /// The core row of who asks.
 fn requester_row<'a>(draft: &'a Draft, event: Event, who: Who) -> Option<&'a CoreLine>
     ensures { option_copied result ≡ rule.requester_row draft.now event who }
 {
     match who {
-        Who::Other => core_row(draft, out(draft)?, event),
-        Who::Sharer => core_row(draft, shared(draft)?, event),
+        Who::Other => core_row_at(draft, out(draft)?, event),
+        Who::Sharer => core_row_at(draft, shared(draft)?, event),
         Who::Owner => None,
     }
 }
 
 /// The final state of who asks, under a reply.
-fn final_of(draft: &Draft, event: Event, who: Who, reply: u8) -> Option<usize>
+fn final_of(draft: &Draft, event: Event, who: Who, reply: u8) -> Option<u8>
     ensures { result ≡ rule.final_of draft.now event who reply }
 {
     let row = requester_row(draft, event, who)?;
-    let end = final_under(ReplyName::Reply(reply), &row.form)?;
-    Some(usize::from(end))
+    final_under(ReplyName::Reply(reply), &row.form)
 }
 
 /// The final state of who asks, where an owner in a state answers.
-fn final_by(draft: &Draft, event: Event, who: Who, forward: usize, state: usize) -> Option<usize>
+fn final_by(draft: &Draft, event: Event, who: Who, forward: u8, state: u8) -> Option<u8>
     ensures { result ≡ rule.final_by draft.now event who forward state }
 {
     final_of(draft, event, who, reply_to(draft, state, forward)?)
 }
 
 /// The final state of a store of an owner.
-fn upgrade_of(draft: &Draft, state: usize) -> Option<usize>
+fn upgrade_of(draft: &Draft, state: u8) -> Option<u8>
     ensures { result ≡ rule.upgrade_of draft.now state }
 {
     let row = core_row(draft, state, Event::Store)?;
-    let end = final_under(ReplyName::AckCount, &row.form)?;
-    Some(usize::from(end))
+    final_under(ReplyName::AckCount, &row.form)
 }
 
-fn lists_owner(draft: &Draft, dir: usize, state: usize) -> bool
+fn lists_owner(draft: &Draft, dir: u8, state: u8) -> bool
     ensures { result ≡ rule.lists_owner draft.now dir state }
 {
     lists(draft, dir, state) && is_owner_state(draft, state)
 }
 
-fn is_read_end(draft: &Draft, row: &RowLine, state: usize) -> bool
+fn is_read_end(draft: &Draft, row: &RowLine, state: u8) -> bool
     ensures { result ≡ rule.is_read_end draft.now row.now state }
 {
-    let next = usize::from(row.next);
-    (kind_is(DirKind::Shared, draft, next) && is(shared(draft), state))
-        || (kind_is(DirKind::Idle, draft, usize::from(row.dir))
-            && kind_is(DirKind::Owned, draft, next)
-            && lists_owner(draft, next, state))
+    (kind_is(DirKind::Shared, draft, row.next) && is(shared(draft), state))
+        || (kind_is(DirKind::Idle, draft, row.dir)
+            && kind_is(DirKind::Owned, draft, row.next)
+            && lists_owner(draft, row.next, state))
 }
 
 fn reads_memory(draft: &Draft, row: &RowLine, who: Who, reply: u8) -> bool
@@ -72,7 +81,7 @@ fn reads_memory(draft: &Draft, row: &RowLine, who: Who, reply: u8) -> bool
     }
 }
 
-fn is_shared_by(draft: &Draft, who: Who, forward: usize, owner: usize) -> bool
+fn is_shared_by(draft: &Draft, who: Who, forward: u8, owner: u8) -> bool
     ensures { result ≡ rule.is_shared_by draft.now who forward owner }
 {
     match final_by(draft, Event::Load, who, forward, owner) {
@@ -81,13 +90,15 @@ fn is_shared_by(draft: &Draft, who: Who, forward: usize, owner: usize) -> bool
     }
 }
 
-fn are_shared(draft: &Draft, who: Who, forward: usize, owners: &[u8]) -> bool
+fn are_shared(draft: &Draft, who: Who, forward: u8, owners: &[u8]) -> bool
     ensures { result ≡ rule.are_shared draft.now who forward owners.now }
 {
-    owners.iter().all(|owner| is_shared_by(draft, who, forward, usize::from(*owner)))
+    owners
+        .iter()
+        .all(|owner| is_shared_by(draft, who, forward, *owner))
 }
 
-fn is_kept(draft: &Draft, next: usize, owner: usize) -> bool
+fn is_kept(draft: &Draft, next: u8, owner: u8) -> bool
     ensures { result ≡ rule.is_kept draft.now next owner }
 {
     match keep_of(draft, owner) {
@@ -96,15 +107,13 @@ fn is_kept(draft: &Draft, next: usize, owner: usize) -> bool
     }
 }
 
-fn are_kept(draft: &Draft, next: usize, owners: &[u8]) -> bool
+fn are_kept(draft: &Draft, next: u8, owners: &[u8]) -> bool
     ensures { result ≡ rule.are_kept draft.now next owners.now }
 {
-    owners
-        .iter()
-        .all(|owner| is_kept(draft, next, usize::from(*owner)))
+    owners.iter().all(|owner| is_kept(draft, next, *owner))
 }
 
-fn is_owner_by(draft: &Draft, who: Who, next: usize, forward: usize, owner: usize) -> bool
+fn is_owner_by(draft: &Draft, who: Who, next: u8, forward: u8, owner: u8) -> bool
     ensures { result ≡ rule.is_owner_by draft.now who next forward owner }
 {
     match final_by(draft, Event::Load, who, forward, owner) {
@@ -113,13 +122,15 @@ fn is_owner_by(draft: &Draft, who: Who, next: usize, forward: usize, owner: usiz
     }
 }
 
-fn are_owners(draft: &Draft, who: Who, next: usize, forward: usize, owners: &[u8]) -> bool
+fn are_owners(draft: &Draft, who: Who, next: u8, forward: u8, owners: &[u8]) -> bool
     ensures { result ≡ rule.are_owners draft.now who next forward owners.now }
 {
-    owners.iter().all(|owner| is_owner_by(draft, who, next, forward, usize::from(*owner)))
+    owners
+        .iter()
+        .all(|owner| is_owner_by(draft, who, next, forward, *owner))
 }
 
-fn is_listed_by(draft: &Draft, who: Who, next: usize, forward: usize, owner: usize) -> bool
+fn is_listed_by(draft: &Draft, who: Who, next: u8, forward: u8, owner: u8) -> bool
     ensures { result ≡ rule.is_listed_by draft.now who next forward owner }
 {
     match final_by(draft, Event::Store, who, forward, owner) {
@@ -128,13 +139,15 @@ fn is_listed_by(draft: &Draft, who: Who, next: usize, forward: usize, owner: usi
     }
 }
 
-fn are_listed(draft: &Draft, who: Who, next: usize, forward: usize, owners: &[u8]) -> bool
+fn are_listed(draft: &Draft, who: Who, next: u8, forward: u8, owners: &[u8]) -> bool
     ensures { result ≡ rule.are_listed draft.now who next forward owners.now }
 {
-    owners.iter().all(|owner| is_listed_by(draft, who, next, forward, usize::from(*owner)))
+    owners
+        .iter()
+        .all(|owner| is_listed_by(draft, who, next, forward, *owner))
 }
 
-fn is_upgrade_listed(draft: &Draft, next: usize, owner: usize) -> bool
+fn is_upgrade_listed(draft: &Draft, next: u8, owner: u8) -> bool
     ensures { result ≡ rule.is_upgrade_listed draft.now next owner }
 {
     match upgrade_of(draft, owner) {
@@ -143,53 +156,45 @@ fn is_upgrade_listed(draft: &Draft, next: usize, owner: usize) -> bool
     }
 }
 
-fn are_upgraded(draft: &Draft, next: usize, owners: &[u8]) -> bool
+fn are_upgraded(draft: &Draft, next: u8, owners: &[u8]) -> bool
     ensures { result ≡ rule.are_upgraded draft.now next owners.now }
 {
-    owners.iter().all(|owner| is_upgrade_listed(draft, next, usize::from(*owner)))
+    owners
+        .iter()
+        .all(|owner| is_upgrade_listed(draft, next, *owner))
 }
 
 /// Whether a directory state lists all these states.
-fn lists_each(draft: &Draft, next: usize, states: &[u8]) -> bool
+fn lists_each(draft: &Draft, next: u8, states: &[u8]) -> bool
     ensures { result ≡ rule.lists_each draft.now next states.now }
 {
-    states
-        .iter()
-        .all(|state| lists(draft, next, usize::from(*state)))
+    states.iter().all(|state| lists(draft, next, *state))
 }
 
-fn leads_to_shared(draft: &Draft, row: &RowLine, who: Who, forward: usize) -> bool
+fn leads_to_shared(draft: &Draft, row: &RowLine, who: Who, forward: u8) -> bool
     ensures { result ≡ rule.leads_to_shared draft.now row.now who forward }
 {
-    kind_is(DirKind::Shared, draft, usize::from(row.next))
-        && are_shared(draft, who, forward, listed(draft, usize::from(row.dir)))
+    kind_is(DirKind::Shared, draft, row.next)
+        && are_shared(draft, who, forward, listed(draft, row.dir))
 }
 
-fn leads_to_mixed(draft: &Draft, row: &RowLine, who: Who, forward: usize) -> bool
+fn leads_to_mixed(draft: &Draft, row: &RowLine, who: Who, forward: u8) -> bool
     ensures { result ≡ rule.leads_to_mixed draft.now row.now who forward }
 {
-    let owners = listed(draft, usize::from(row.dir));
-    let next = usize::from(row.next);
-    kind_is(DirKind::Mixed, draft, next)
-        && are_kept(draft, next, owners)
+    let owners = listed(draft, row.dir);
+    kind_is(DirKind::Mixed, draft, row.next)
+        && are_kept(draft, row.next, owners)
         && are_shared(draft, who, forward, owners)
 }
 
-fn leads_to_owned(draft: &Draft, row: &RowLine, who: Who, forward: usize) -> bool
+fn leads_to_owned(draft: &Draft, row: &RowLine, who: Who, forward: u8) -> bool
     ensures { result ≡ rule.leads_to_owned draft.now row.now who forward }
 {
-    let next = usize::from(row.next);
-    kind_is(DirKind::Owned, draft, next)
-        && are_owners(
-            draft,
-            who,
-            next,
-            forward,
-            listed(draft, usize::from(row.dir)),
-        )
+    kind_is(DirKind::Owned, draft, row.next)
+        && are_owners(draft, who, row.next, forward, listed(draft, row.dir))
 }
 
-fn reads_owner(draft: &Draft, row: &RowLine, who: Who, forward: usize) -> bool
+fn reads_owner(draft: &Draft, row: &RowLine, who: Who, forward: u8) -> bool
     ensures { result ≡ rule.reads_owner draft.now row.now who forward }
 {
     (!has_class(FwdClass::Share, draft, forward) || leads_to_shared(draft, row, who, forward))
@@ -202,12 +207,12 @@ fn reads_rightly(draft: &Draft, row: &RowLine, who: Who, action: Action) -> bool
 {
     match action {
         Action::Reply(reply) => reads_memory(draft, row, who, reply),
-        Action::Forward(forward) => reads_owner(draft, row, who, usize::from(forward)),
+        Action::Forward(forward) => reads_owner(draft, row, who, forward),
         Action::Count => true,
     }
 }
 
-fn is_final_listed(draft: &Draft, who: Who, next: usize, reply: u8) -> bool
+fn is_final_listed(draft: &Draft, who: Who, next: u8, reply: u8) -> bool
     ensures { result ≡ rule.is_final_listed draft.now who next reply }
 {
     match final_of(draft, Event::Store, who, reply) {
@@ -219,15 +224,14 @@ fn is_final_listed(draft: &Draft, who: Who, next: usize, reply: u8) -> bool
 fn lists_writer(draft: &Draft, row: &RowLine, who: Who, action: Action) -> bool
     ensures { result ≡ rule.lists_writer draft.now row.now who action }
 {
-    let next = usize::from(row.next);
     match action {
-        Action::Reply(reply) => is_final_listed(draft, who, next, reply),
+        Action::Reply(reply) => is_final_listed(draft, who, row.next, reply),
         Action::Forward(forward) => are_listed(
             draft,
             who,
-            next,
-            usize::from(forward),
-            listed(draft, usize::from(row.dir)),
+            row.next,
+            forward,
+            listed(draft, row.dir),
         ),
         Action::Count => true,
     }
@@ -236,25 +240,23 @@ fn lists_writer(draft: &Draft, row: &RowLine, who: Who, action: Action) -> bool
 fn writes_rightly(draft: &Draft, row: &RowLine, who: Who, action: Action) -> bool
     ensures { result ≡ rule.writes_rightly draft.now row.now who action }
 {
-    let next = usize::from(row.next);
-    let is_owned = kind_is(DirKind::Owned, draft, next);
+    let is_owned = kind_is(DirKind::Owned, draft, row.next);
     match who {
         Who::Other | Who::Sharer => is_owned && lists_writer(draft, row, who, action),
-        Who::Owner => is_owned && are_upgraded(draft, next, listed(draft, usize::from(row.dir))),
+        Who::Owner => is_owned && are_upgraded(draft, row.next, listed(draft, row.dir)),
     }
 }
 
 fn keeps_owner(draft: &Draft, row: &RowLine, left: Left) -> bool
     ensures { result ≡ rule.keeps_owner draft.now row.now left }
 {
-    let next = usize::from(row.next);
     let has_owner = match left {
         Left::Last => {
-            kind_is(DirKind::Mixed, draft, next) || kind_is(DirKind::Owned, draft, next)
+            kind_is(DirKind::Mixed, draft, row.next) || kind_is(DirKind::Owned, draft, row.next)
         }
-        Left::More => kind_is(DirKind::Mixed, draft, next),
+        Left::More => kind_is(DirKind::Mixed, draft, row.next),
     };
-    has_owner && lists_each(draft, next, listed(draft, usize::from(row.dir)))
+    has_owner && lists_each(draft, row.next, listed(draft, row.dir))
 }
 
 fn leaves_rightly(draft: &Draft, row: &RowLine, left: Left) -> bool
@@ -264,18 +266,17 @@ fn leaves_rightly(draft: &Draft, row: &RowLine, left: Left) -> bool
         Left::Last => DirKind::Idle,
         Left::More => DirKind::Shared,
     };
-    kind_is(kind, draft, usize::from(row.next))
+    kind_is(kind, draft, row.next)
 }
 
 fn evicts_rightly(draft: &Draft, row: &RowLine, who: Who, left: Left) -> bool
     ensures { result ≡ rule.evicts_rightly draft.now row.now who left }
 {
-    let dir = usize::from(row.dir);
     match who {
         Who::Other => true,
         Who::Sharer => {
-            (!kind_is(DirKind::Shared, draft, dir) || leaves_rightly(draft, row, left))
-                && (!kind_is(DirKind::Mixed, draft, dir) || keeps_owner(draft, row, left))
+            (!kind_is(DirKind::Shared, draft, row.dir) || leaves_rightly(draft, row, left))
+                && (!kind_is(DirKind::Mixed, draft, row.dir) || keeps_owner(draft, row, left))
         }
         Who::Owner => leaves_rightly(draft, row, left),
     }
@@ -291,7 +292,6 @@ pub fn leads_rightly(draft: &Draft, row: &RowLine, form: RowForm) -> bool
             who,
             action,
         } => {
-            let request = usize::from(request);
             (!is(request_of(draft, ReqClass::Read), request)
                 || reads_rightly(draft, row, who, action))
                 && (!is(request_of(draft, ReqClass::Write), request)

@@ -6,18 +6,19 @@ ghost use Rattle.pg_perm.specs.declared.fault.Fault.{Fault};
 ghost use Rattle.pg_perm.specs.Drafts.{IsWellFormed};
 ghost use Rattle.pg_terms.specs.Terms as term;
 ghost use Rattle.pg_terms.specs.Due as due;
-ghost use Rattle.pg_shape.specs.ShapeFaults.{HasShape, IsShapeFault, IsProtocol};
-ghost use Rattle.pg_shape.specs.Shaped.{IsShaped};
+ghost use Rattle.pg_terms.specs.Rows as says;
+ghost use Rattle.pg_shape.specs.ShapeFaults.{HasShape, IsShapeFault};
+ghost use Rattle.pg_shape.specs.Shaped.{IsProtocol, IsShaped};
 ghost use Rattle.pg_shape.specs.FirstFaults as first;
 ghost use Rattle.pg_shape.specs.Answers.{Judges};
 
-use crate::copy::copy_draft;
 use crate::error::ShapeError;
 use crate::faults::shape_fault;
-use pg_perm::{CoreLine, Draft, Event, Perm, RowLine, TakeLine};
+use crate::take_rules::may_keep;
+use pg_perm::{CoreLine, Draft, Event, FwdClass, Perm, ReqClass, RowLine, TakeLine};
 use pg_terms as terms;
 use pg_terms::{DirCase, is_due};
-use std::alloc::{AllocError, Global};
+use std::alloc::AllocError;
 use std::marker::Model;
 
 /// A draft that has the shape of a protocol. Contracts see the draft.
@@ -28,7 +29,7 @@ pub struct Protocol {
 
 impl Model for Protocol {
     ghost use Rattle.pg_perm.specs.declared.draft.Draft.{Draft};
-    ghost use Rattle.pg_shape.specs.ShapeFaults.{IsProtocol};
+    ghost use Rattle.pg_shape.specs.Shaped.{IsProtocol};
 
     ghost Value = { Draft };
 
@@ -57,17 +58,17 @@ pub fn shape(draft: Draft) -> Result<Protocol, ShapeError>
 
 impl Protocol {
     /// Another protocol of the same draft.
-    pub fn copy(&self, alloc: Global) -> Result<Protocol, AllocError>
+    pub fn copy(&self) -> Result<Protocol, AllocError>
         ensures { IfOk result (λ copy. copy ≡ self.now) }
     {
-        Ok(Protocol {
-            draft: copy_draft(alloc, &self.draft)?,
-        })
+        let draft = self.draft.clone()?;
+        Ok(Protocol { draft })
     }
 
     /// The draft of which the protocol was made, with what the shape gives of it.
     pub fn draft(&self) -> &Draft
         ensures exact { result.now ≡ self.now }
+        ensures protocol { IsProtocol self.now }
         ensures well_formed { IsWellFormed self.now }
         ensures shaped { IsShaped self.now }
     {
@@ -90,6 +91,22 @@ impl Protocol {
         Some(state as u8)
     }
 
+    /// The first request of a class.
+    pub fn request_of(&self, class: ReqClass) -> Option<u8>
+        ensures { result ≡ term.request_of self.now class }
+    {
+        let request = terms::request_of(&self.draft, class)?;
+        Some(request as u8)
+    }
+
+    /// The first forward of a class.
+    pub fn forward_of(&self, class: FwdClass) -> Option<u8>
+        ensures { result ≡ term.forward_of self.now class }
+    {
+        let forward = terms::forward_of(&self.draft, class)?;
+        Some(forward as u8)
+    }
+
     /// What a core may do in a cache state.
     pub fn perm(&self, state: u8) -> Perm
         requires { state < length self.now.caches }
@@ -104,14 +121,21 @@ impl Protocol {
         requires event { event ≡ Evict → term.is (term.out self.now) state ≡ false }
         ensures { term.core_row self.now state event ≡ Some result.now }
     {
-        terms::core_row(&self.draft, usize::from(state), event).unwrap()
+        terms::core_row(&self.draft, state, event).unwrap()
     }
 
     /// Whether a cache in this state may get this forward.
     pub fn due(&self, state: u8, forward: u8) -> bool
         ensures { result ≡ due.is_due self.now state forward }
     {
-        is_due(&self.draft, usize::from(state), usize::from(forward))
+        is_due(&self.draft, state, forward)
+    }
+
+    /// Whether a cache in this state may get the keep forward.
+    pub fn may_keep(&self, state: u8) -> bool
+        ensures { result ≡ says.may_keep self.now state }
+    {
+        may_keep(&self.draft, state)
     }
 
     /// What a cache does with a forward, or none where it can't get it in this state.
@@ -119,7 +143,7 @@ impl Protocol {
         ensures exact { option_copied result ≡ term.take_row self.now state forward }
         ensures none { (result ≡ None) ↔ (due.is_due self.now state forward ≡ false) }
     {
-        terms::take_row(&self.draft, usize::from(state), usize::from(forward))
+        terms::take_row(&self.draft, state, forward)
     }
 
     /// What the directory does in a case, or none where the case can't come in this state.
@@ -127,6 +151,6 @@ impl Protocol {
         ensures exact { option_copied result ≡ term.dir_row self.now dir at }
         ensures none { (result ≡ None) ↔ (due.is_due_case self.now dir at ≡ false) }
     {
-        terms::dir_row(&self.draft, usize::from(dir), at)
+        terms::dir_row(&self.draft, dir, at)
     }
 }

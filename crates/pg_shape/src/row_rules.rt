@@ -1,3 +1,9 @@
+//! The rules that a row line breaks.
+//!
+//! S9: a case that an earlier line has.
+//! S15: a case that isn't due.
+//! S16: an action that the case may not have in a directory state of this kind.
+//! S17: a next state that it may not lead to, which `next_rules` judges.
 ghost use Rattle.std.specs.Prelude.{◌≡◌, ◌≤◌, length};
 ghost use Rattle.pg_shape.specs.RowRules as rule;
 ghost use Rattle.pg_shape.specs.FirstFaults.{first_rule};
@@ -38,7 +44,7 @@ fn has_row_line(above: &[RowLine], line: &RowLine) -> bool
 fn is_not_due(draft: &Draft, line: &RowLine) -> bool
     ensures { result ≡ rule.is_not_due draft.now line.now }
 {
-    !is_form_due(draft, usize::from(line.dir), line.form)
+    !is_form_due(draft, line.dir, line.form)
 }
 
 fn is_reply(action: Action) -> bool
@@ -55,12 +61,12 @@ fn forwards(class: FwdClass, draft: &Draft, action: Action) -> bool
     ensures { result ≡ rule.forwards class draft.now action }
 {
     match action {
-        Action::Forward(forward) => has_class(class, draft, usize::from(forward)),
+        Action::Forward(forward) => has_class(class, draft, forward),
         _ => false,
     }
 }
 
-fn reads_by(draft: &Draft, dir: usize, action: Action) -> bool
+fn reads_by(draft: &Draft, dir: u8, action: Action) -> bool
     ensures { result ≡ rule.reads_by draft.now dir action }
 {
     (!kind_is(DirKind::Owned, draft, dir)
@@ -72,7 +78,7 @@ fn reads_by(draft: &Draft, dir: usize, action: Action) -> bool
             || forwards(FwdClass::Keep, draft, action))
 }
 
-fn writes_by(draft: &Draft, dir: usize, who: Who, action: Action) -> bool
+fn writes_by(draft: &Draft, dir: u8, who: Who, action: Action) -> bool
     ensures { result ≡ rule.writes_by draft.now dir who action }
 {
     match who {
@@ -84,7 +90,7 @@ fn writes_by(draft: &Draft, dir: usize, who: Who, action: Action) -> bool
     }
 }
 
-fn acts_wrongly(draft: &Draft, dir: usize, form: RowForm) -> bool
+fn acts_wrongly(draft: &Draft, dir: u8, form: RowForm) -> bool
     ensures { result ≡ rule.acts_wrongly draft.now dir form }
 {
     let RowForm::Ask {
@@ -95,7 +101,6 @@ fn acts_wrongly(draft: &Draft, dir: usize, form: RowForm) -> bool
     else {
         return false;
     };
-    let request = usize::from(request);
     ((kind_is(DirKind::Idle, draft, dir) || kind_is(DirKind::Shared, draft, dir))
         && !is_reply(action))
         || (is(request_of(draft, ReqClass::Read), request) && !reads_by(draft, dir, action))
@@ -113,7 +118,7 @@ pub fn row_rule(draft: &Draft, number: usize, line: &RowLine) -> Option<Rule>
     if is_not_due(draft, line) {
         return Some(Rule::S15);
     }
-    if acts_wrongly(draft, usize::from(line.dir), line.form) {
+    if acts_wrongly(draft, line.dir, line.form) {
         return Some(Rule::S16);
     }
     if !leads_rightly(draft, line, line.form) {

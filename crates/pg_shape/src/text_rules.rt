@@ -1,3 +1,9 @@
+//! The rules that the protocol line breaks: what the whole text lacks.
+//!
+//! S2: no out state, or no write owner.
+//! S4: no idle directory state, or a shared cache state and no directory state of kind shared.
+//! S5: no READ, or no WRITE.
+//! S6: a shared state without inv.
 ghost use Rattle.std.specs.Prelude.{◌≡◌};
 ghost use Rattle.std.specs.List.{list_any};
 ghost use Rattle.pg_terms.specs.Terms as term;

@@ -2,8 +2,7 @@
 use Rattle.std.proofs.Common.{◌≡◌, ◌≢◌, ℕ, ◌<◌, Bool, true, false, ◌||◌, List, [], ◌∷◌, Option, Some, None, refl, sym, ap, arith}
 use Rattle.std.specs.Prelude.{nat_lt, ◌==◌, if◌then◌else◌}
 use Rattle.std.specs.List.{list_all}
-use Rattle.std.proofs.lemmas.Bool.{and_from, eqb-true, eqb-false, eq-eqb, lt-ltb, ltb-true, ltb-false}
-use Rattle.pg_perm.proofs.Booleans.{both}
+use Rattle.std.proofs.lemmas.Bool.{and_from, eqb-true, eqb-false, eq-eqb, lt-ltb, ltb-true, ltb-false, and_parts}
 use Rattle.pg_perm.specs.Drafts.{is_rising}
 use Rattle.pg_terms.specs.Terms.{is}
 use Rattle.pg_standing.specs.Standings.{is_among, with_core, without, with_owner}
@@ -93,7 +92,7 @@ with_some c xs = among_some c (with_core c xs) (among_with_same c xs)
 pub below_with : (n c : ℕ) (xs : List ℕ) → c < n → are_below n xs ≡ true → are_below n (with_core c xs) ≡ true
 below_with n c [] low h = and_from (nat_lt c n) true (lt-ltb c n low) refl
 below_with n c (x ∷ xs) low h =
-    let t = both (nat_lt x n) (are_below n xs) h in
+    let t = and_parts (nat_lt x n) (are_below n xs) h in
     at (nat_lt c x) (c == x) t.0 (below_with n c xs low t.1)
   where
     at : (a b : Bool) → nat_lt x n ≡ true → are_below n (with_core c xs) ≡ true
@@ -105,7 +104,7 @@ below_with n c (x ∷ xs) low h =
 pub below_without : (n c : ℕ) (xs : List ℕ) → are_below n xs ≡ true → are_below n (without c xs) ≡ true
 below_without n c [] h = refl
 below_without n c (x ∷ xs) h =
-    let t = both (nat_lt x n) (are_below n xs) h in
+    let t = and_parts (nat_lt x n) (are_below n xs) h in
     at (x == c) t.0 (below_without n c xs t.1)
   where
     at : (b : Bool) → nat_lt x n ≡ true → are_below n (without c xs) ≡ true → are_below n (if b then without c xs else x ∷ without c xs) ≡ true
@@ -120,7 +119,7 @@ below_owner n (Some o) xs low h = below_with n o xs (low o refl) h
 pub among_below : (n c : ℕ) (xs : List ℕ) → are_below n xs ≡ true → is_among xs c ≡ true → c < n
 among_below n c [] h among = absurd cc
 among_below n c (x ∷ xs) h among =
-    let t = both (nat_lt x n) (are_below n xs) h in
+    let t = and_parts (nat_lt x n) (are_below n xs) h in
     at (x == c) refl among (ltb-true x n t.0) (among_below n c xs t.1)
   where
     at : (b : Bool) → (x == c) ≡ b → (b || is_among xs c) ≡ true → x < n → (is_among xs c ≡ true → c < n) → c < n
@@ -132,7 +131,7 @@ among_below n c (x ∷ xs) h among =
 rising_with_behind : (m c : ℕ) (xs : List ℕ) → m < c → is_rising (m ∷ xs) ≡ true → is_rising (m ∷ with_core c xs) ≡ true
 rising_with_behind m c [] low h = and_from (nat_lt m c) true (lt-ltb m c low) refl
 rising_with_behind m c (x ∷ xs) low h =
-    let t = both (nat_lt m x) (is_rising (x ∷ xs)) h in
+    let t = and_parts (nat_lt m x) (is_rising (x ∷ xs)) h in
     at (nat_lt c x) refl (c == x) refl t.0 t.1 (λ below. rising_with_behind x c xs below t.1)
   where
     at : (a : Bool) → nat_lt c x ≡ a → (b : Bool) → (c == x) ≡ b → nat_lt m x ≡ true → is_rising (x ∷ xs) ≡ true → (x < c → is_rising (x ∷ with_core c xs) ≡ true)
@@ -157,14 +156,14 @@ rising_with c (x ∷ xs) h = at (nat_lt c x) refl (c == x) refl
 rising_skip : (m x : ℕ) (xs : List ℕ) → is_rising (m ∷ x ∷ xs) ≡ true → is_rising (m ∷ xs) ≡ true
 rising_skip m x [] h = refl
 rising_skip m x (y ∷ ys) h =
-    let t = both (nat_lt m x) (is_rising (x ∷ y ∷ ys)) h in
-    let u = both (nat_lt x y) (is_rising (y ∷ ys)) t.1 in
+    let t = and_parts (nat_lt m x) (is_rising (x ∷ y ∷ ys)) h in
+    let u = and_parts (nat_lt x y) (is_rising (y ∷ ys)) t.1 in
     and_from (nat_lt m y) (is_rising (y ∷ ys)) (lt-ltb m y (omega (arith, ltb-true m x t.0, ltb-true x y u.0))) u.1
 
 rising_without_behind : (m c : ℕ) (xs : List ℕ) → is_rising (m ∷ xs) ≡ true → is_rising (m ∷ without c xs) ≡ true
 rising_without_behind m c [] h = refl
 rising_without_behind m c (x ∷ xs) h =
-    let t = both (nat_lt m x) (is_rising (x ∷ xs)) h in
+    let t = and_parts (nat_lt m x) (is_rising (x ∷ xs)) h in
     at (x == c) t.0 (rising_without_behind m c xs (rising_skip m x xs h)) (rising_without_behind x c xs t.1)
   where
     at : (b : Bool) → nat_lt m x ≡ true → is_rising (m ∷ without c xs) ≡ true → is_rising (x ∷ without c xs) ≡ true
@@ -174,7 +173,7 @@ rising_without_behind m c (x ∷ xs) h =
 
 pub rising_behind : (m : ℕ) (xs : List ℕ) → is_rising (m ∷ xs) ≡ true → is_rising xs ≡ true
 rising_behind m [] h = refl
-rising_behind m (x ∷ xs) h = (both (nat_lt m x) (is_rising (x ∷ xs)) h).1
+rising_behind m (x ∷ xs) h = (and_parts (nat_lt m x) (is_rising (x ∷ xs)) h).1
 
 pub rising_without : (c : ℕ) (xs : List ℕ) → is_rising xs ≡ true → is_rising (without c xs) ≡ true
 rising_without c [] h = refl

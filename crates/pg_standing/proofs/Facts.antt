@@ -3,7 +3,7 @@ use Rattle.std.proofs.Common.{◌≡◌, ℕ, Bool, true, false, not, ◌&&◌, 
 use Rattle.std.specs.Prelude.{slice_get}
 use Rattle.std.specs.Option.{option_map, option_map_or, option_and_then}
 use Rattle.std.specs.List.{list_any}
-use Rattle.pg_perm.proofs.Booleans.{both}
+use Rattle.std.proofs.lemmas.Bool.{and_parts, and_from, false_from_ne_true}
 use Rattle.pg_perm.specs.declared.kinds.Role.{Role}
 use Rattle.pg_perm.specs.declared.kinds.Role.TheVariants as role
 use Rattle.pg_perm.specs.declared.kinds.Perm.{Perm}
@@ -12,7 +12,7 @@ use Rattle.pg_perm.specs.declared.kinds.DirKind.{DirKind}
 use Rattle.pg_perm.specs.declared.kinds.DirKind.TheVariants as kind
 use Rattle.pg_perm.specs.declared.kinds.Event.TheVariants.{Load, Store}
 use Rattle.pg_perm.specs.declared.kinds.FwdClass.{FwdClass}
-use Rattle.pg_perm.specs.declared.kinds.FwdClass.TheVariants.{Inv, Share, Keep, Drop}
+use Rattle.pg_perm.specs.declared.kinds.FwdClass.TheVariants.{Share, Keep, Drop}
 use Rattle.pg_perm.specs.declared.draft.Draft.{Draft}
 use Rattle.pg_perm.specs.declared.draft.CacheLine.{CacheLine}
 use Rattle.pg_perm.specs.declared.draft.DirLine.{DirLine}
@@ -23,23 +23,16 @@ use Rattle.pg_perm.specs.declared.draft.RowForm.TheVariants as form
 use Rattle.pg_perm.specs.declared.draft.MsgClass.{MsgClass}
 use Rattle.pg_perm.specs.declared.draft.MsgClass.TheVariants.{Request, Forward, Reply}
 use Rattle.pg_perm.specs.declared.draft.Action.TheVariants as action
-use Rattle.pg_terms.specs.Terms.{is_out, is_shared, is_owner, is_none_perm, is_read_perm, is_write_perm, same_forward, is_forward_of, is_write_owner, is_read_owner, cache_is, out, shared, forward_of, has_class, lists, take_row, keep_of}
+use Rattle.pg_terms.specs.Terms.{is_out, is_shared, is_owner, is_none_perm, is_read_perm, is_write_perm, is_forward_of, is_write_owner, is_read_owner, cache_is, out, shared, forward_of, has_class, lists, take_row, keep_of}
 use Rattle.pg_terms.specs.Due.{same_kind, kind_is, forward_in}
+use Rattle.pg_terms.proofs.Same.{kind_equal, forward_equal}
 use Rattle.pg_shape.specs.CoreRules.{is_dirty_writer}
 use Rattle.pg_terms.specs.Rows.{allows, action_in}
 use Rattle.pg_shape.specs.DirRules.{has_no_owner}
 use Rattle.pg_shape.specs.Shaped.{HasPerms, HasLists, HasForwards}
-use Rattle.pg_shape.proofs.Bools.{and_both}
-use Rattle.pg_shape.proofs.Searches.{not_both, not_true, any_at, position_get, position_none, map_or_get}
+use Rattle.pg_shape.proofs.Searches.{not_both, any_at, position_get, position_none, map_or_get}
 
 -- Kinds of directory states
-
-kind_equal : (a b : DirKind) → same_kind a b ≡ true → a ≡ b
-kind_equal kind.Idle kind.Idle h = refl
-kind_equal kind.Shared kind.Shared h = refl
-kind_equal kind.Owned kind.Owned h = refl
-kind_equal kind.Mixed kind.Mixed h = refl
-kind_equal _ _ h = absurd cc
 
 -- a directory state is of one kind
 pub one_kind : (d : Draft) (n : ℕ) (a b : DirKind) → kind_is a d n ≡ true → kind_is b d n ≡ true → a ≡ b
@@ -50,23 +43,16 @@ one_kind d n a b h g =
 
 -- kind shared and kind mixed aren't owned
 pub shared_not_owned : (d : Draft) (n : ℕ) → kind_is kind.Shared d n ≡ true → kind_is kind.Owned d n ≡ false
-shared_not_owned d n h = not_true (kind_is kind.Owned d n) (λ g. absurd (cc (one_kind d n kind.Shared kind.Owned h g)))
+shared_not_owned d n h = false_from_ne_true (kind_is kind.Owned d n) (λ g. absurd (cc (one_kind d n kind.Shared kind.Owned h g)))
 
 pub mixed_not_owned : (d : Draft) (n : ℕ) → kind_is kind.Mixed d n ≡ true → kind_is kind.Owned d n ≡ false
-mixed_not_owned d n h = not_true (kind_is kind.Owned d n) (λ g. absurd (cc (one_kind d n kind.Mixed kind.Owned h g)))
+mixed_not_owned d n h = false_from_ne_true (kind_is kind.Owned d n) (λ g. absurd (cc (one_kind d n kind.Mixed kind.Owned h g)))
 
 -- Classes of forwards
 
-class_equal : (a b : FwdClass) → same_forward a b ≡ true → a ≡ b
-class_equal Inv Inv h = refl
-class_equal Share Share h = refl
-class_equal Keep Keep h = refl
-class_equal Drop Drop h = refl
-class_equal _ _ h = absurd cc
-
 one_class_of : (a b : FwdClass) (m : MsgClass) → is_forward_of a m ≡ true → is_forward_of b m ≡ true → a ≡ b
 one_class_of a b (Request c) h g = absurd cc
-one_class_of a b (Forward c) h g = class_equal a c h ∙ sym (class_equal b c g)
+one_class_of a b (Forward c) h g = forward_equal a c h ∙ sym (forward_equal b c g)
 one_class_of a b Reply h g = absurd cc
 
 -- a forward is of one class
@@ -77,10 +63,10 @@ one_class d f a b h g =
 
 -- a keep and a drop are no share
 pub keep_no_share : (d : Draft) (f : ℕ) → has_class Keep d f ≡ true → has_class Share d f ≡ false
-keep_no_share d f h = not_true (has_class Share d f) (λ g. absurd (cc (one_class d f Keep Share h g)))
+keep_no_share d f h = false_from_ne_true (has_class Share d f) (λ g. absurd (cc (one_class d f Keep Share h g)))
 
 pub drop_no_share : (d : Draft) (f : ℕ) → has_class Drop d f ≡ true → has_class Share d f ≡ false
-drop_no_share d f h = not_true (has_class Share d f) (λ g. absurd (cc (one_class d f Drop Share h g)))
+drop_no_share d f h = false_from_ne_true (has_class Share d f) (λ g. absurd (cc (one_class d f Drop Share h g)))
 
 -- the first forward of a class is of it
 pub first_has_class : (d : Draft) (class : FwdClass) (f : ℕ) → forward_of d class ≡ Some f → has_class class d f ≡ true
@@ -177,7 +163,7 @@ read_allows perm.Write h = refl
 
 some_reads : (o : Bool) (p : Perm) → o ≡ true → is_none_perm p ≡ false → is_write_perm p ≡ false → (o && is_read_perm p) ≡ true
 some_reads o perm.None h none write = absurd cc
-some_reads o perm.Read h none write = and_both o true h refl
+some_reads o perm.Read h none write = and_from o true h refl
 some_reads o perm.Write h none write = absurd cc
 
 -- shared and each owner allow a load
@@ -195,7 +181,7 @@ owner_allows_load d x perms h =
 pub writer_allows_store : (d : Draft) (x : ℕ) → cache_is is_dirty_writer d x ≡ true → cache_is (allows Store) d x ≡ true
 writer_allows_store d x h =
     let (c, get, same) = map_or_get is_dirty_writer (slice_get d.caches x) h in
-    cache_passes d x (allows Store) c get (both (is_owner c.role) (is_write_perm c.perm) (both (is_write_owner c) (not c.clean) same).0).1
+    cache_passes d x (allows Store) c get (and_parts (is_owner c.role) (is_write_perm c.perm) (and_parts (is_write_owner c) (not c.clean) same).0).1
 
 -- and an owner that allows none may only read
 pub owner_reads : (d : Draft) (x : ℕ) → HasPerms d → cache_is (λ c. is_owner c.role) d x ≡ true → cache_is (allows Store) d x ≡ false → cache_is is_read_owner d x ≡ true

@@ -1,6 +1,7 @@
 -- Whom the forwards of a request go to, and that each of them applies.
 use Rattle.std.proofs.Common.{◌≡◌, ℕ, ◌⊎◌, ◌<◌, true, false, List, [], Option, Some, refl, sym, subst, ap, ◌∙◌, inl, inr}
 use Rattle.std.specs.Prelude.{◌==◌, ◌≢◌}
+use Rattle.std.proofs.lemmas.Bool.{and_from, or_left, false_from_ne_true}
 use Rattle.pg_perm.specs.declared.kinds.Event.{Event}
 use Rattle.pg_perm.specs.declared.kinds.Event.TheVariants.{Load, Store, Evict}
 use Rattle.pg_perm.specs.declared.kinds.Who.{Who}
@@ -17,15 +18,16 @@ use Rattle.pg_terms.specs.declared.cases.DirCase.TheVariants as case
 use Rattle.pg_terms.specs.Terms.{is, is_write_owner, cache_is, shared, forward_of, has_class, lists, take_row, dir_row}
 use Rattle.pg_shape.specs.Shaped.{IsShaped}
 use Rattle.pg_terms.specs.Rows.{action_in}
-use Rattle.pg_shape.proofs.Bools.{and_both}
-use Rattle.pg_shape.proofs.Searches.{not_both, not_true, or_left}
+use Rattle.pg_shape.proofs.Searches.{not_both}
 use Rattle.pg_shape.proofs.Shaped.{is_one}
 use Rattle.pg_shape.proofs.Rows.{row_at}
 use Rattle.pg_standing.specs.Standings.{Standing, Request, is_among, who, row_of, after_write, after_row, after}
 use Rattle.pg_standing.specs.Sends.{sent}
 use Rattle.pg_standing.specs.Sound.{IsSound, IsLegal, IsLegalAs, fits_as, fits}
 use Rattle.pg_standing.specs.Requests.{action_of}
-use Rattle.pg_standing.proofs.Members.{same_self, owner_joined, who_owns, who_shares, holds, owner_fits, sharer_fits, other_fits}
+use Rattle.pg_standing.proofs.Cores.{same_core}
+use Rattle.pg_standing.proofs.Holders.{is_sharer}
+use Rattle.pg_standing.proofs.Members.{owner_joined, who_owns, holds, owner_fits, sharer_fits, other_fits}
 use Rattle.pg_standing.proofs.Facts.{shared_not_owned, mixed_not_owned, keep_no_share, drop_no_share, first_has_class, kept, forward_acts, action_forwards, out_no_writer, shared_no_writer, reader_no_writer}
 use Rattle.pg_standing.proofs.Afters.{after_is, by_share, shared_with, joined_by, owned_by, after_share_is, after_joined_is, after_owned_is}
 use Rattle.pg_standing.proofs.Handling.{IsTaken, owner_of_taken, not_the_owner, load_row, evict_row, load_forward, load_class, store_forward, IsSentFor, sent_has_row, action_has_row}
@@ -66,22 +68,22 @@ Applies d s c f x = (t : TakeLine) × (take_row d x f ≡ Some t) × (fits d s c
 
 -- a sharer isn't the owner
 sharer_no_owner : (d : Draft) (n : ℕ) (s : Standing) (c : ℕ) → IsSound d n s → is_among s.sharers c ≡ true → is s.owner c ≡ false
-sharer_no_owner d n s c sound h = not_true (is s.owner c) (λ owns. not_both (is_among s.sharers c) h (sound.owner c (is_one s.owner c owns)).1)
+sharer_no_owner d n s c sound h = false_from_ne_true (is s.owner c) (λ owns. not_both (is_among s.sharers c) h (sound.owner c (is_one s.owner c owns)).1)
 
 -- the state of the owner is listed, and that of a sharer is the shared state
 owner_listed : (d : Draft) (s : Standing) (c x : ℕ) → is s.owner c ≡ true → fits d s c x ≡ true → lists d s.dir x ≡ true
 owner_listed d s c x h fit = subst (λ (w : Who). fits_as d s.dir w x ≡ true) (who_owns s c h) fit
 
 sharer_shares : (d : Draft) (s : Standing) (c x : ℕ) → is s.owner c ≡ false → is_among s.sharers c ≡ true → fits d s c x ≡ true → is (shared d) x ≡ true
-sharer_shares d s c x h g fit = subst (λ (w : Who). fits_as d s.dir w x ≡ true) (who_shares s c h g) fit
+sharer_shares d s c x h g fit = subst (λ (w : Who). fits_as d s.dir w x ≡ true) (is_sharer s c h g) fit
 
 -- an inv applies, and leaves nothing
 inv_applies : (d : Draft) (n : ℕ) (s : Standing) (core c f x : ℕ) (r : RowLine) → IsShaped d → IsSound d n s → (core == c) ≡ false
     → is_among s.sharers c ≡ true → forward_of d Inv ≡ Some f → fits d s c x ≡ true → Applies d (after_write r core s) c f x
 inv_applies d n s core c f x r shape sound apart among inv fit =
     let shares = sharer_shares d s c x (sharer_no_owner d n s c sound among) among fit in
-    let first : is (forward_of d Inv) f ≡ true = ap (λ (o : Option ℕ). is o f) inv ∙ same_self f in
-    let (t, row) = shape.takes.due x f (or_left _ _ (and_both (is (shared d) x) (is (forward_of d Inv) f) shares first)) in
+    let first : is (forward_of d Inv) f ≡ true = ap (λ (o : Option ℕ). is o f) inv ∙ same_core f in
+    let (t, row) = shape.takes.due x f (or_left _ _ (and_from (is (shared d) x) (is (forward_of d Inv) f) shares first)) in
     let leads = (shape.takes.inv x f t row (first_has_class d Inv f inv)).1 in
     (t, row, other_fits d (after_write r core s) c t.next apart refl leads, out_no_writer d t.next leads)
 

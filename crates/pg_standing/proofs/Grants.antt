@@ -29,7 +29,8 @@ use Rattle.pg_shape.proofs.Shaped.{is_one}
 use Rattle.pg_standing.specs.Standings.{Standing, Request, is_among, with_owner, who, row_of, after_write, after_row, after}
 use Rattle.pg_standing.specs.Sound.{IsSound, IsLegal, IsLegalAs, fits_as, fits}
 use Rattle.pg_standing.specs.Requests.{action_of, IsReplyBy, IsReply}
-use Rattle.pg_standing.proofs.Members.{same_self, joined, holds, owner_fits, sharer_fits}
+use Rattle.pg_standing.proofs.Cores.{same_core, among_with_same}
+use Rattle.pg_standing.proofs.Members.{holds, owner_fits, sharer_fits}
 use Rattle.pg_standing.proofs.Facts.{shared_not_owned, mixed_not_owned, keep_no_share, drop_no_share, action_forwards, reply_forwards_nothing, shared_allows_load, owner_allows_load, writer_allows_store, owner_reads, lists_some_owner}
 use Rattle.pg_standing.proofs.Afters.{after_is, by_share, by_nothing, shared_with, joined_by, owned_by, after_share_is, after_joined_is, after_owned_is}
 use Rattle.pg_standing.proofs.Handling.{IsTaken, load_row, load_forward, load_class, load_counts_not, store_forward, store_counts_not, row_acts, action_has_row}
@@ -149,12 +150,12 @@ load_by_memory d s core x m r shape legal fit row does = at final_state.0 final_
     at t ends (inl (next, e)) =
         let by = by_nothing d r (reply_forwards_nothing m r.form does) in
         subst (λ (s : Standing). Ends d s core Load x (reply.Reply m)) (sym (after_joined_is d r core s by (shared_not_owned d r.next next)))
-        (ends_shared d (joined_by r.next core s) core x t (reply.Reply m) shape (holds s core Other legal).0 (joined core s.sharers)
+        (ends_shared d (joined_by r.next core s) core x t (reply.Reply m) shape (holds s core Other legal).0 (among_with_same core s.sharers)
         (sym (final_is d Load s.dir x m Other (λ e. absurd (cc e)) fit) ∙ ends) e)
     at t ends (inr (idle, next, listed, owner)) =
         let by = by_nothing d r (reply_forwards_nothing m r.form does) in
         subst (λ (s : Standing). Ends d s core Load x (reply.Reply m)) (sym (after_owned_is d r core s by next))
-        (ends_owning d (owned_by r.next core s) core x t (reply.Reply m) shape (same_self core)
+        (ends_owning d (owned_by r.next core s) core x t (reply.Reply m) shape (same_core core)
         (sym (final_is d Load s.dir x m Other (λ e. absurd (cc e)) fit) ∙ ends) listed owner)
 
 load_by_owner : (d : Draft) (n : ℕ) (s : Standing) (core f x y m : ℕ) (r : RowLine) → IsShaped d → IsSound d n s → who s core ≡ Other → fits_as d s.dir Other x ≡ true
@@ -172,18 +173,18 @@ load_by_owner d n s core f x y m r shape sound legal fit row does listed to =
         let (next, finals) = shape.reads.share s.dir f r row does class in
         let by = by_share d r f true (action_forwards f r.form does) class in
         subst (λ (s : Standing). Ends d s core Load x (reply.Reply m)) (sym (after_share_is d r core s by (shared_not_owned d r.next next)))
-        (ends_shared d (shared_with r.next core s) core x t (reply.Reply m) shape refl (joined core (with_owner s.owner s.sharers)) same (finals y t listed ends))
+        (ends_shared d (shared_with r.next core s) core x t (reply.Reply m) shape refl (among_with_same core (with_owner s.owner s.sharers)) same (finals y t listed ends))
     by_class t ends same (inr (inl class)) =
         let (next, kept, finals) = shape.reads.keep s.dir f r row does class in
         let by = by_share d r f false (action_forwards f r.form does) (keep_no_share d f class) in
         subst (λ (s : Standing). Ends d s core Load x (reply.Reply m)) (sym (after_joined_is d r core s by (mixed_not_owned d r.next next)))
-        (ends_shared d (joined_by r.next core s) core x t (reply.Reply m) shape (holds s core Other legal).0 (joined core s.sharers) same (finals y t listed ends))
+        (ends_shared d (joined_by r.next core s) core x t (reply.Reply m) shape (holds s core Other legal).0 (among_with_same core s.sharers) same (finals y t listed ends))
     by_class t ends same (inr (inr (class, alone))) =
         let (next, finals) = shape.reads.drop s.dir f r row does class in
         let by = by_share d r f false (action_forwards f r.form does) (drop_no_share d f class) in
         let (at, owner) = finals y t listed ends in
         subst (λ (s : Standing). Ends d s core Load x (reply.Reply m)) (sym (after_owned_is d r core s by next))
-        (ends_owning d (owned_by r.next core s) core x t (reply.Reply m) shape (same_self core) same at owner)
+        (ends_owning d (owned_by r.next core s) core x t (reply.Reply m) shape (same_core core) same at owner)
 
 -- Stores
 
@@ -191,7 +192,7 @@ load_by_owner d n s core f x y m r shape sound legal fit row does listed to =
 ends_writing : (d : Draft) (s : Standing) (core x t : ℕ) (name : ReplyName) (r : RowLine) → IsShaped d → final d x Store name ≡ Some t → lists d r.next t ≡ true
     → Ends d (after_write r core s) core Store x name
 ends_writing d s core x t name r shape ends at =
-    (t, ends, owner_fits d (after_write r core s) core t (same_self core) at, store_ends_writing d x t name shape ends)
+    (t, ends, owner_fits d (after_write r core s) core t (same_core core) at, store_ends_writing d x t name shape ends)
 
 store_by_memory : (d : Draft) (s : Standing) (core x m : ℕ) (r : RowLine) (w : Who) → IsShaped d → w ≢ Owner → fits_as d s.dir w x ≡ true
     → dir_row d s.dir (case.Ask Write w) ≡ Some r → action_in r.form ≡ Some (action.Reply m) → Ends d (after_write r core s) core Store x (reply.Reply m)

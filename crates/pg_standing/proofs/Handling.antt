@@ -20,6 +20,7 @@ use Rattle.pg_perm.specs.declared.draft.Action.TheVariants as action
 use Rattle.pg_terms.specs.declared.cases.DirCase.TheVariants as case
 use Rattle.pg_terms.specs.Terms.{is, has_class, dir_row, is_case, forward_of, same_event}
 use Rattle.pg_terms.specs.Due.{kind_is, forward_in}
+use Rattle.pg_terms.proofs.Same.{event_equal}
 use Rattle.pg_shape.specs.Shaped.{IsShaped}
 use Rattle.pg_terms.specs.Rows.{action_in}
 use Rattle.pg_shape.proofs.Rows.{row_at, evict_form}
@@ -27,7 +28,7 @@ use Rattle.pg_standing.specs.Standings.{Standing, Request, is_among, who, left_o
 use Rattle.pg_standing.specs.Sends.{sent_by, sent}
 use Rattle.pg_standing.specs.Sound.{IsSound}
 use Rattle.pg_standing.specs.Requests.{action_of}
-use Rattle.pg_standing.proofs.Members.{turned}
+use Rattle.pg_standing.proofs.Cores.{other_way}
 
 -- Owners
 
@@ -55,7 +56,7 @@ owner_of_taken d n s sound (inr h) = sound.mixed h
 
 -- who isn't the owner is another than the owner
 pub not_the_owner : (s : Standing) (o c : ℕ) → s.owner ≡ Some o → is s.owner c ≡ false → (c == o) ≡ false
-not_the_owner s o c e h = turned o c (subst (λ (w : Option ℕ). is w c ≡ false) e h)
+not_the_owner s o c e h = other_way o c (subst (λ (w : Option ℕ). is w c ≡ false) e h)
 
 -- Rows of requests
 
@@ -175,16 +176,11 @@ what_is_sent : (d : Draft) (s : Standing) (q : Request) (c f : ℕ) (r : RowLine
     → ((q.core == c) ≡ false) × IsSentFor d s q.event c r f
 what_is_sent d s q c f r h = at (q.core == c) (same_event q.event Store) (is_among s.sharers c) (is s.owner c) refl refl refl refl h
   where
-    store : (event : Event) → same_event event Store ≡ true → event ≡ Store
-    store Load e = absurd cc
-    store Store e = refl
-    store Evict e = absurd cc
-
     at : (a b e g : Bool) → (q.core == c) ≡ a → same_event q.event Store ≡ b → is_among s.sharers c ≡ e → is s.owner c ≡ g
         → cond a None (cond (b && e) (forward_of d Inv) (cond g (forward_in r.form) None)) ≡ Some f
         → ((q.core == c) ≡ false) × IsSentFor d s q.event c r f
     at true b e g pa pb pe pg h = absurd cc
-    at false true true g pa pb pe pg h = (pa, inl (store q.event pb, pe, h))
+    at false true true g pa pb pe pg h = (pa, inl (event_equal q.event Store pb, pe, h))
     at false true false true pa pb pe pg h = (pa, inr (pg, h))
     at false true false false pa pb pe pg h = absurd cc
     at false false e true pa pb pe pg h = (pa, inr (pg, h))

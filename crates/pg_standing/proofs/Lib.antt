@@ -15,3 +15,5 @@ pub mod SoundAfter
 pub mod WhoAfter
 pub mod Untouched
 pub mod Handled
+pub mod Marked
+pub mod CoreBits

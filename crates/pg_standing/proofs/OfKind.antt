@@ -33,7 +33,8 @@ use Rattle.pg_standing.specs.Sends.{sent_by, sent}
 use Rattle.pg_standing.specs.Sound.{IsSound, IsLegal}
 use Rattle.pg_standing.specs.Kinds.{Kind, Stale, Read_shared, Read_owned, Read_share, Read_keep, Read_drop, Write_reply, Write_drop, Write_count, Evict_owner, Evict_sharer, to_holder, HasOwner, IsOfKind}
 use Rattle.pg_standing.proofs.Holders.{who_by, owner_is, sharer_is, is_same}
-use Rattle.pg_standing.proofs.DirKinds.{one_kind, other_kind, sharer_dir, owner_out}
+use Rattle.pg_standing.proofs.Facts.{one_kind}
+use Rattle.pg_standing.proofs.DirKinds.{other_kind, sharer_dir, owner_out}
 use Rattle.pg_standing.proofs.DueRows.{row, stale_none}
 
 -- it is of some kind, and leads somewhere
@@ -194,7 +195,7 @@ load_kind d n s sh so c is r e dirs.Shared g =
     let (t, fin) = sh.reads.memory_final s.dir m r row does in
     elim (sh.reads.memory s.dir m t r row does fin) [
       | inl h ↦ (Read_shared, r.next, read_shared d s c m r e does is (so.shared g).0 h.0)
-      | inr h ↦ let wrong = one_kind dirs.Idle dirs.Shared d s.dir h.0 g in absurd cc
+      | inr h ↦ let wrong = one_kind d s.dir dirs.Idle dirs.Shared h.0 g in absurd cc
     ]
 load_kind d n s sh so c is r e dirs.Owned g =
     let row = row_as d s c Load Other r is e in
@@ -308,9 +309,6 @@ left_last (x ∷ xs) e = absurd cc
 left_more : (xs : List ℕ) → xs ≢ [] → left_of xs ≡ More
 left_more [] ne = absurd (ne refl)
 left_more (x ∷ xs) ne = refl
-
-left_some : (xs : List ℕ) → left_of xs ≡ More → xs ≢ []
-left_some xs e none = let last : left_of xs ≡ Last = ap left_of none in cc
 
 -- the row of an evict, by whether sharers are left
 evict_row : (d : Draft) (s : Standing) (c : ℕ) (w : Who) (l : Left) (r : RowLine) → who s c ≡ w → left_of (without c s.sharers) ≡ l → row_of d s (evict c) ≡ Some r

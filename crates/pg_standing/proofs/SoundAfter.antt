@@ -12,12 +12,12 @@ use Rattle.pg_standing.specs.Sound.{IsSound, IsLegal}
 use Rattle.pg_standing.specs.Kinds.{Kind, Stale, Read_shared, Read_owned, Read_share, Read_keep, Read_drop, Write_reply, Write_drop, Write_count, Evict_owner, Evict_sharer, after_kind, Known, IsOfKind}
 use Rattle.pg_standing.proofs.Cores.{are_below, among_with_other, among_without_other, with_some, below_with, below_without, below_owner, rising_with, rising_without, rising_owner, other_way}
 use Rattle.pg_standing.proofs.Holders.{sharer_is, other_is, apart}
-use Rattle.pg_standing.proofs.DirKinds.{one_kind}
+use Rattle.pg_standing.proofs.Facts.{one_kind}
 use Rattle.pg_standing.proofs.OfKind.{kind}
 
 -- a directory state is of no other kind
 wrong : (j k : DirKind) (d : Draft) (n : ℕ) → j ≢ k → kind_is j d n ≡ true → kind_is k d n ≡ true → ⊥
-wrong j k d n ne e g = ne (one_kind j k d n e g)
+wrong j k d n ne e g = ne (one_kind d n j k e g)
 
 -- Sound by the kind of the state
 

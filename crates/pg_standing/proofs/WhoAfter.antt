@@ -5,24 +5,9 @@ use Rattle.pg_perm.specs.declared.kinds.Who.{Who}
 use Rattle.pg_perm.specs.declared.kinds.Who.TheVariants.{Other, Sharer, Owner}
 use Rattle.pg_perm.specs.declared.draft.Draft.{Draft}
 use Rattle.pg_standing.specs.Standings.{Standing, Request, is_among, with_owner, who, after}
-use Rattle.pg_standing.specs.Sound.{IsSound}
 use Rattle.pg_standing.specs.Kinds.{Kind, Stale, Read_shared, Read_owned, Read_share, Read_keep, Read_drop, Write_reply, Write_drop, Write_count, Evict_owner, Evict_sharer, after_kind, Known, IsOfKind}
-use Rattle.pg_standing.proofs.Cores.{among_with_same, among_with_other, among_without_same, among_without_other, among_owner_other, among_owner_same}
-use Rattle.pg_standing.proofs.Holders.{owner_is, sharer_is, other_is, is_owner, is_sharer, is_nothing, who_same, one_owner, none_owns}
-
--- what the core of a request of this kind is afterwards
-abbrev pub own_who : Kind → Who
-own_who Stale = Other
-own_who Read_shared = Sharer
-own_who Read_owned = Owner
-own_who (Read_share f) = Sharer
-own_who (Read_keep f) = Sharer
-own_who (Read_drop f) = Owner
-own_who Write_reply = Owner
-own_who (Write_drop f) = Owner
-own_who Write_count = Owner
-own_who Evict_owner = Other
-own_who Evict_sharer = Other
+use Rattle.pg_standing.proofs.Cores.{among_with_other, among_without_other, among_owner_other, among_owner_same}
+use Rattle.pg_standing.proofs.Holders.{owner_is, sharer_is, other_is, is_sharer, is_nothing, who_same, one_owner, none_owns}
 
 -- a share makes the owner a sharer
 abbrev pub shared_who : Who → Who
@@ -49,24 +34,6 @@ other_who (Write_drop f) w = Other
 other_who Write_count w = Other
 other_who Evict_owner w = w
 other_who Evict_sharer w = w
-
-pub own_after_kind : (d : Draft) (n : ℕ) (s : Standing) → IsSound d n s → (k : Kind) (r next : ℕ) → Known d k r next s → who (after_kind k r next s) r ≡ own_who k
-own_after_kind d n s so Stale r next known = known
-own_after_kind d n s so Read_shared r next known =
-    is_sharer (after_kind Read_shared r next s) r (none_owns s.owner r known.1) (among_with_same r s.sharers)
-own_after_kind d n s so Read_owned r next known = is_owner (after_kind Read_owned r next s) r refl
-own_after_kind d n s so (Read_share f) r next known =
-    is_sharer (after_kind (Read_share f) r next s) r refl (among_with_same r (with_owner s.owner s.sharers))
-own_after_kind d n s so (Read_keep f) r next known =
-    is_sharer (after_kind (Read_keep f) r next s) r (other_is s r known.0).0 (among_with_same r s.sharers)
-own_after_kind d n s so (Read_drop f) r next known = is_owner (after_kind (Read_drop f) r next s) r refl
-own_after_kind d n s so Write_reply r next known = is_owner (after_kind Write_reply r next s) r refl
-own_after_kind d n s so (Write_drop f) r next known = is_owner (after_kind (Write_drop f) r next s) r refl
-own_after_kind d n s so Write_count r next known = is_owner (after_kind Write_count r next s) r refl
-own_after_kind d n s so Evict_owner r next known =
-    is_nothing (after_kind Evict_owner r next s) r refl (so.owner r (owner_is s r known.0)).1
-own_after_kind d n s so Evict_sharer r next known =
-    is_nothing (after_kind Evict_sharer r next s) r (sharer_is s r known.0).0 (among_without_same r s.sharers)
 
 after_share : (s : Standing) (f r next c : ℕ) → (r == c) ≡ false → (w : Who) → who s c ≡ w → who (after_kind (Read_share f) r next s) c ≡ shared_who w
 after_share s f r next c ne Other e =
@@ -98,11 +65,7 @@ other_after_kind d s Evict_owner r next c ne known =
     who_same s (after_kind Evict_owner r next s) c (sym (one_owner s.owner r c (owner_is s r known.0) ne)) refl
 other_after_kind d s Evict_sharer r next c ne known = who_same s (after_kind Evict_sharer r next s) c refl (among_without_other r c s.sharers ne)
 
--- what the core of a request is afterwards
-pub own_after : (d : Draft) (n : ℕ) (s : Standing) (q : Request) (k : Kind) (next : ℕ) → IsSound d n s → IsOfKind d s q k next → who (after d s q) q.core ≡ own_who k
-own_after d n s q k next so of = ap (λ t. who t q.core) of.knows ∙ own_after_kind d n s so k q.core next of.known
-
--- and what another core is
+-- what another core is after a request
 pub other_after : (d : Draft) (s : Standing) (q : Request) (k : Kind) (next c : ℕ) → IsOfKind d s q k next → (q.core == c) ≡ false
     → who (after d s q) c ≡ other_who k (who s c)
 other_after d s q k next c of ne = ap (λ t. who t c) of.knows ∙ other_after_kind d s k q.core next c ne of.known

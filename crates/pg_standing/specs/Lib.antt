@@ -1,4 +1,5 @@
 pub mod Standings
+pub mod CoreSets
 pub mod Sends
 pub mod Sound
 pub mod Kinds

@@ -4,6 +4,8 @@
 //! runs of the controllers are built on them. docs/MODEL.md tells what they mean.
 #![tactic(auto)]
 
+mod core_set;
 mod laws;
 
+pub use core_set::CoreSet;
 pub use laws::{requests_are_handled, starts_are_sound};

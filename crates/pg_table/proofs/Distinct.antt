@@ -1,11 +1,10 @@
 -- The states of a cache controller are told apart.
 use Rattle.std.proofs.Common.{◌≡◌, ℕ, ◌<◌, Bool, true, false, not, [], ◌∷◌, map, Option, Some, None, refl, ap, ◌∙◌, arith}
-use Rattle.std.specs.Prelude.{◌==◌, slice_get, if◌then◌else◌, is_some, filter, length, unwrap_or}
+use Rattle.std.specs.Prelude.{◌==◌, ◌&&◌, slice_get, if◌then◌else◌, is_some, filter, length, unwrap_or}
 use Rattle.std.specs.Option.{option_map, option_map_or}
 use Rattle.std.specs.List.{AllByRecursion, IsDistinct, flat_map}
-use Rattle.std.proofs.Math.Bool.{and-false}
-use Rattle.std.proofs.lemmas.Bool.{eqb-true, eq-eqb}
-use Rattle.pg_perm.proofs.Booleans.{both}
+use denote.Enum.Bare.{sameb}
+use Rattle.std.proofs.lemmas.Bool.{eqb-true, eq-eqb, and_parts, not-true}
 use Rattle.pg_perm.specs.declared.kinds.Event.TheVariants.{Load, Store}
 use Rattle.pg_perm.specs.declared.kinds.Event.{Event}
 use Rattle.pg_perm.specs.declared.kinds.Mode.{Mode}
@@ -17,7 +16,6 @@ use Rattle.pg_perm.specs.declared.draft.CacheLine.{CacheLine}
 use Rattle.pg_perm.specs.Drafts.{IsWellFormed}
 use Rattle.pg_terms.specs.Terms.{is, is_out, is_shared, is_owner, is_read_perm, is_read_owner, cache_is, out, shared}
 use Rattle.pg_shape.specs.Shaped.{IsShaped, HasPerms}
-use Rattle.pg_shape.proofs.Bools.{true_not}
 use Rattle.pg_shape.proofs.Cores.{role_out, role_shared, role_owner}
 use Rattle.pg_shape.proofs.Searches.{position_get, map_or_get}
 use Rattle.pg_table.specs.declared.cache.Desc.{Desc}
@@ -27,25 +25,35 @@ use Rattle.pg_table.specs.declared.cache.Phase.TheVariants.{D, Ad, Ac, A}
 use Rattle.pg_table.specs.declared.cache.Tag.{Tag}
 use Rattle.pg_table.specs.declared.cache.Tag.TheVariants.{Plain, Kept, Gave, Gone}
 use Rattle.pg_table.specs.Descriptors.{out_state, is_tag_of, tags, states, starts, first_states, waiting_states, store_states, descs}
-use Rattle.pg_table.specs.Tables.{same_tag, same_desc}
+use Rattle.pg_perm.specs.contracts.kinds.Event.{the_type as event_type}
+use Rattle.pg_table.specs.contracts.cache.Phase.{the_type as phase_type}
+use Rattle.pg_table.specs.contracts.cache.Tag.{the_type as tag_type}
+use Rattle.pg_table.specs.Tables.{same_desc}
 use Rattle.pg_table.proofs.Same.{same_desc_is}
 use Rattle.pg_table.proofs.Apart.{each_map, each_any, each_append, each_flat_map_any, each_passes, each_weaken, distinct_filter, distinct_map, IsRanked, ranked_append, distinct_flat_map, distinct_numbers}
 
 -- States of an operation that began in one state
 
-no_tag_twice : IsDistinct same_tag (Plain ∷ Kept ∷ Gave ∷ Gone ∷ [])
+no_tag_twice : IsDistinct (sameb tag_type) (Plain ∷ Kept ∷ Gave ∷ Gone ∷ [])
 unfolding IsDistinct
 no_tag_twice = ((refl, (refl, (refl, tt))), ((refl, (refl, tt)), ((refl, tt), (tt, tt))))
 
-distinct_tags : (d : Draft) (m : Mode) (s : ℕ) (event : Event) → IsDistinct same_tag (tags d m s event)
+distinct_tags : (d : Draft) (m : Mode) (s : ℕ) (event : Event) → IsDistinct (sameb tag_type) (tags d m s event)
 unfolding IsDistinct
 distinct_tags d mode.Stall s event = (tt, tt)
-distinct_tags d mode.Defer s event = distinct_filter same_tag (is_tag_of d s event) (Plain ∷ Kept ∷ Gave ∷ Gone ∷ []) no_tag_twice
+distinct_tags d mode.Defer s event = distinct_filter (sameb tag_type) (is_tag_of d s event) (Plain ∷ Kept ∷ Gave ∷ Gone ∷ []) no_tag_twice
+
+-- of four tests the last fails
+last_false : (a b c d : Bool) → d ≡ false → (a && (b && (c && d))) ≡ false
+last_false false b c d h = refl
+last_false true false c d h = refl
+last_false true true false d h = refl
+last_false true true true d h = h
 
 -- those that differ by their tags
 distinct_asks : (d : Draft) (m : Mode) (s : ℕ) (event : Event) (phase : Phase) → IsDistinct same_desc (map (λ t. Ask event s phase t) (tags d m s event))
 distinct_asks d m s event phase =
-    distinct_map same_tag same_desc (λ t. Ask event s phase t) (λ a b apart. rw apart (and-false _)) (tags d m s event) (distinct_tags d m s event)
+    distinct_map (sameb tag_type) same_desc (λ t. Ask event s phase t) (λ a b apart. last_false (sameb event_type event event) (s == s) (sameb phase_type phase phase) (sameb tag_type a b) apart) (tags d m s event) (distinct_tags d m s event)
 
 one_state : (s : Desc) → IsDistinct same_desc (s ∷ [])
 unfolding IsDistinct
@@ -128,7 +136,7 @@ shared_is_ranked d s is =
 owner_is_ranked : (d : Draft) (s : ℕ) → cache_is is_read_owner d s ≡ true → rank_of d s ≡ 2
 owner_is_ranked d s is =
     let (c, get, role) = map_or_get is_read_owner (slice_get d.caches s) is in
-    rank_at d s c get ∙ ap (λ r. role_rank (Some r)) (role_owner c.role (both (is_owner c.role) (is_read_perm c.perm) role).0)
+    rank_at d s c get ∙ ap (λ r. role_rank (Some r)) (role_owner c.role (and_parts (is_owner c.role) (is_read_perm c.perm) role).0)
 
 distinct_starts : (d : Draft) → HasPerms d → IsDistinct (λ n m. n == m) (starts d)
 unfolding IsDistinct
@@ -162,7 +170,7 @@ section d (Leave s) = if is (out d) s then 4 else 3
 
 -- a state that isn't out is left before out is
 leaves_before : (d : Draft) (s : ℕ) → not (is (out d) s) ≡ true → section d (Leave s) ≡ 3
-leaves_before d s h = rw (true_not (is (out d) s) h) refl
+leaves_before d s h = rw (not-true (is (out d) s) h) refl
 
 leaves_last : (d : Draft) → HasPerms d → section d (Leave (out_state d)) ≡ 4
 leaves_last d perms = let (s, e) = perms.start in rw e (rw (eq-eqb s s refl) refl)

@@ -2,8 +2,7 @@
 use Rattle.std.proofs.Common.{◌≡◌, ℕ, ◌<◌, Bool, true, false, ◌&&◌, ◌||◌, List, [], ◌∷◌, ◌++◌, length, Option, Some, None, refl, sym, ap, ◌∙◌, inl, inr}
 use Rattle.std.specs.Prelude.{is_some, slice_get, if◌then◌else◌}
 use Rattle.std.specs.Option.{option_and_then}
-use Rattle.std.proofs.lemmas.Bool.{eq-eqb}
-use Rattle.pg_perm.proofs.Booleans.{both}
+use Rattle.std.proofs.lemmas.Bool.{eq-eqb, and_parts, or_left}
 use Rattle.pg_perm.specs.declared.kinds.Role.{Role}
 use Rattle.pg_perm.specs.declared.kinds.Role.TheVariants as role
 use Rattle.pg_perm.specs.declared.kinds.Event.{Event}
@@ -23,7 +22,7 @@ use Rattle.pg_terms.specs.Rows.{allows, store_next, final_under, final}
 use Rattle.pg_shape.specs.CoreRules.{is_hit}
 use Rattle.pg_shape.specs.Shaped.{IsShaped}
 use Rattle.pg_shape.proofs.Bools.{and_both}
-use Rattle.pg_shape.proofs.Searches.{not_both, not_true, or_left, position_get, get_below, map_or_get}
+use Rattle.pg_shape.proofs.Searches.{not_both, not_true, position_get, get_below, map_or_get}
 use Rattle.pg_shape.proofs.Cores.{at_cache}
 use Rattle.pg_standing.proofs.Facts.{is_first_of_class}
 use Rattle.pg_table.specs.declared.cache.Desc.{Desc}
@@ -144,7 +143,7 @@ loading_some d s tag _ = refl
 -- an inv that comes before the own store is due
 earlier_due : (d : Draft) (s : ℕ) (tag : Tag) (f : ℕ) → IsShaped d → is_earlier d s tag f ≡ true → is_due d s f ≡ true
 earlier_due d s Plain f shape h =
-    let (in_shared, inv) = both (is (shared d) s) (has_class Inv d f) h in
+    let (in_shared, inv) = and_parts (is (shared d) s) (has_class Inv d f) h in
     let first : is (forward_of d Inv) f ≡ true = ap (λ o. is o f) (is_first_of_class d shape.forwards Inv f inv) ∙ eq-eqb f f refl in
     or_left (is (shared d) s && is (forward_of d Inv) f) _ (and_both (is (shared d) s) (is (forward_of d Inv) f) in_shared first)
 earlier_due d s Kept f shape h = absurd cc

@@ -3,9 +3,8 @@ use Rattle.std.proofs.Common.{◌≡◌, ℕ, ◌<◌, Bool, true, false, ◌&&�
 use Rattle.std.specs.Prelude.{◌==◌, map, nat_lt, if◌then◌else◌}
 use Rattle.std.specs.Option.{option_map, option_map_or, option_and_then}
 use Rattle.std.specs.List.{list_all}
-use Rattle.std.proofs.lemmas.Bool.{ltb-true}
+use Rattle.std.proofs.lemmas.Bool.{ltb-true, and_parts}
 use Rattle.std.proofs.lemmas.Option.{same_Some}
-use Rattle.pg_perm.proofs.Booleans.{both}
 use Rattle.pg_perm.specs.declared.kinds.Event.{Event}
 use Rattle.pg_perm.specs.declared.kinds.Event.TheVariants.{Load, Store, Evict}
 use Rattle.pg_perm.specs.declared.kinds.FwdClass.TheVariants.{Keep}
@@ -70,7 +69,7 @@ in_form_below d event x (Hit next) formed among = absurd among
 in_form_below d event x (Ask request pairs) formed among =
     let (p, there, e) = of_map (λ p. p.fin) x pairs among in
     let paired : has_pair d p ≡ true = all_in (has_pair d) p pairs (asks_formed d event request pairs formed).0 there in
-    subst (λ n. n < length d.caches) e (ltb-true p.fin (length d.caches) (both (has_reply_name d p.reply) (has_cache d p.fin) paired).1)
+    subst (λ n. n < length d.caches) e (ltb-true p.fin (length d.caches) (and_parts (has_reply_name d p.reply) (has_cache d p.fin) paired).1)
 in_form_below d event x (Leave request) formed among = absurd among
 
 -- a final state is a state

@@ -2,7 +2,7 @@
 use Rattle.std.proofs.Common.{◌≡◌, ℕ, ◌⊎◌, true, false, ◌&&◌, inl, inr}
 use Rattle.std.specs.Option.{option_map_or}
 use Rattle.std.specs.List.{list_any}
-use Rattle.pg_perm.proofs.Booleans.{both}
+use Rattle.std.proofs.lemmas.Bool.{and_parts}
 use Rattle.pg_perm.specs.declared.kinds.Event.{Event}
 use Rattle.pg_perm.specs.declared.kinds.FwdClass.{FwdClass}
 use Rattle.pg_perm.specs.declared.kinds.FwdClass.TheVariants as class
@@ -31,7 +31,7 @@ due_class d s f h = at (one_of (is (shared d) s && is (forward_of d class.Inv) f
     at : ((is (shared d) s && is (forward_of d class.Inv) f) ≡ true)
         ⊎ ((cache_is (λ c. is_owner c.role) d s && is_to_owner d f && list_any (is_passed_to d s f) d.rows) ≡ true)
         → (c : FwdClass) × (has_class c d f ≡ true)
-    at (inl inv) = (class.Inv, first_has_class d class.Inv f (is_one (forward_of d class.Inv) f (both (is (shared d) s) _ inv).1))
+    at (inl inv) = (class.Inv, first_has_class d class.Inv f (is_one (forward_of d class.Inv) f (and_parts (is (shared d) s) _ inv).1))
     at (inr other) = owned (one_three (has_class class.Share d f) (has_class class.Keep d f) (has_class class.Drop d f)
         (three_and (cache_is (λ c. is_owner c.role) d s) (is_to_owner d f) _ other).1)
 
@@ -40,7 +40,7 @@ pub later_class : (d : Draft) (s : ℕ) (e : Event) (t : Tag) (f : ℕ) → is_l
 later_class d s e Plain f h = let (k, x, g, due) = any_get (λ x. is_due d x f) (finals d s e) h in due_class d x f due
 later_class d s e Kept f h =
     let (k, x, g, kept) = any_get (λ x. may_keep d x && option_map_or (λ k. is_due d k f) (keep_of d x) false) (finals d s e) h in
-    let (y, o, due) = map_or_get (λ k. is_due d k f) (keep_of d x) (both (may_keep d x) _ kept).1 in
+    let (y, o, due) = map_or_get (λ k. is_due d k f) (keep_of d x) (and_parts (may_keep d x) _ kept).1 in
     due_class d y f due
 later_class d s e Gave f h = absurd cc
 later_class d s e Gone f h = absurd cc

@@ -1,5 +1,5 @@
 -- The rows of the generated directory controller lead to its states.
-use Rattle.std.proofs.Common.{◌≡◌, ℕ, zero, suc, Bool, true, false, cond, ◌&&◌, List, [], ◌∷◌, ◌++◌, map, Option, Some, None, refl, subst}
+use Rattle.std.proofs.Common.{◌≡◌, ℕ, zero, suc, Bool, true, false, cond, ◌&&◌, List, [], ◌∷◌, ◌++◌, map, Option, Some, None, refl, sym, subst}
 use Rattle.std.specs.Prelude.{slice_get, ◌==◌}
 use Rattle.std.specs.Option.{option_and_then}
 use Rattle.std.specs.List.{list_any, flat_map}
@@ -25,12 +25,14 @@ use Rattle.pg_table.specs.declared.home.DirInput.{DirInput}
 use Rattle.pg_table.specs.declared.home.DirInput.TheVariants as at
 use Rattle.pg_table.specs.declared.home.DirAct.{DirAct}
 use Rattle.pg_table.specs.declared.home.DirAct.TheVariants as act
-use Rattle.pg_table.specs.Home.{home_descs, home_inputs, HomeChoice, evict_acts, by_ask, ask_choice, due_row, home_choice, HomeRow, home_row_for, HomeState, home_generated}
+use Rattle.pg_table.specs.Controllers.{state_by}
+use Rattle.pg_table.specs.Home.{home_descs, home_inputs, HomeChoice, evict_acts, by_ask, ask_choice, due_row, home_choice, HomeRow, HomeState, home_generated}
 use Rattle.pg_table.specs.Tables.{same_dir_desc}
 use Rattle.pg_shape.proofs.Cores.{all_formed}
 use Rattle.pg_shape.proofs.Rows.{row_at}
 use Rattle.pg_table.proofs.Same.{same_dir_desc_self}
 use Rattle.pg_table.proofs.Lists.{get_map}
+use Rattle.pg_table.proofs.ControllerRows.{row_choice}
 use Rattle.pg_table.proofs.HomeStates.{is_home, state_home, busy_home, busy_declared}
 
 -- the row of a due case is a line of the draft, which leads to a declared state
@@ -96,29 +98,10 @@ choice_leads d w k (Busy n) at.BusyEvict c g e = stays d k (Busy n) (act.Stall �
 choice_leads d w k (Busy n) at.Wb c g e = goes d (State n) (act.Write ∷ []) c e (state_home d n (busy_declared d k n g))
 choice_leads d _ k _ _ c _ e = absurd cc
 
--- a row of a state is that of a choice
-row_choice : (f : DirInput → Option HomeChoice) (is : List DirInput) (k : ℕ) (r : HomeRow) → slice_get (flat_map (λ i. home_row_for i (f i)) is) k ≡ Some r → f r.input ≡ Some r.choice
-row_choice f [] k r h = absurd cc
-row_choice f (i ∷ is) k r h = at (f i) refl k h (λ k. row_choice f is k r)
-  where
-    at : (o : Option HomeChoice) → f i ≡ o → (k : ℕ) → slice_get (home_row_for i o ++ flat_map (λ i. home_row_for i (f i)) is) k ≡ Some r
-        → ((k : ℕ) → slice_get (flat_map (λ i. home_row_for i (f i)) is) k ≡ Some r → f r.input ≡ Some r.choice) → f r.input ≡ Some r.choice
-    at None e k h behind = behind k h
-    at (Some c) e zero h behind = subst (λ (r : HomeRow). f r.input ≡ Some r.choice) (same_Some (record { input = i; choice = c }) r h) e
-    at (Some c) e (suc k) h behind = behind k h
-
--- a state of the directory's table is one of the directory with its rows
-state_rows : (d : Draft) (xs : List DirDesc) (n : ℕ) (s : HomeState)
-    → slice_get (map (λ s. record { desc = s; rows = flat_map (λ i. home_row_for i (home_choice d s i)) home_inputs }) xs) n ≡ Some s
-    → (slice_get xs n ≡ Some s.desc) × (s.rows ≡ flat_map (λ i. home_row_for i (home_choice d s.desc i)) home_inputs)
-state_rows d xs n s h =
-    let (x, get, is) = get_map (λ s. record { desc = s; rows = flat_map (λ i. home_row_for i (home_choice d s i)) home_inputs }) xs n s h in
-    subst (λ (s : HomeState). (slice_get xs n ≡ Some s.desc) × (s.rows ≡ flat_map (λ i. home_row_for i (home_choice d s.desc i)) home_inputs)) is (get, refl)
-
 -- each row of the directory leads to one of its states
 pub leads : (d : Draft) (n k : ℕ) (s : HomeState) (r : HomeRow) → IsWellFormed d → slice_get (home_generated d) n ≡ Some s → slice_get s.rows k ≡ Some r
     → list_any (same_dir_desc r.choice.next) (home_descs d) ≡ true
 leads d n k s r w h g =
-    let (at, rows) = state_rows d (home_descs d) n s h in
-    let row = subst (λ (rows : List HomeRow). slice_get rows k ≡ Some r) rows g in
-    choice_leads d w n s.desc r.input r.choice at (row_choice (home_choice d s.desc) home_inputs k r row)
+    let (x, at, is) = get_map (state_by (home_choice d) home_inputs) (home_descs d) n s h in
+    choice_leads d w n x r.input r.choice at
+    (row_choice same_dir_desc home_inputs (home_choice d x) k r (subst (λ (s : HomeState). slice_get s.rows k ≡ Some r) (sym is) g))

@@ -4,7 +4,7 @@ use Rattle.std.specs.Prelude.{slice_get, is_some}
 use Rattle.std.specs.Option.{option_map, option_and_then}
 use Rattle.std.specs.List.{list_any, list_all}
 use Rattle.std.proofs.lemmas.Option.{same_Some}
-use Rattle.pg_perm.proofs.Booleans.{both}
+use Rattle.std.proofs.lemmas.Bool.{and_parts}
 use Rattle.pg_perm.specs.declared.kinds.Event.{Event}
 use Rattle.pg_perm.specs.declared.kinds.Event.TheVariants.{Load, Store, Evict}
 use Rattle.pg_perm.specs.declared.kinds.FwdClass.{FwdClass}
@@ -25,7 +25,8 @@ use Rattle.pg_terms.specs.Due.{is_due}
 use Rattle.pg_terms.specs.Rows.{pair_under, final_under, final}
 use Rattle.pg_shape.specs.Shaped.{IsShaped}
 use Rattle.pg_shape.proofs.Searches.{map_or_get, all_at}
-use Rattle.pg_shape.proofs.Cores.{final_get, reply_equal}
+use Rattle.pg_terms.proofs.Same.{reply_equal}
+use Rattle.pg_shape.proofs.Cores.{final_get}
 use Rattle.pg_table.specs.declared.cache.Desc.{Desc}
 use Rattle.pg_table.specs.declared.cache.Desc.TheVariants.{Stable, Ask, Leave}
 use Rattle.pg_table.specs.declared.cache.Phase.{Phase}
@@ -129,7 +130,7 @@ pair_reply : (d : Draft) (r t : ℕ) (pairs : List Pair) → list_all (has_pair 
     → has_message is_reply d r ≡ true
 pair_reply d r t pairs all h =
     let (k, p, get, same, fin) = final_get (reply.Reply r) pairs t h in
-    let named : has_reply_name d p.reply ≡ true = (both (has_reply_name d p.reply) (has_cache d p.fin) (all_at (has_pair d) pairs k p all get)).0 in
+    let named : has_reply_name d p.reply ≡ true = (and_parts (has_reply_name d p.reply) (has_cache d p.fin) (all_at (has_pair d) pairs k p all get)).0 in
     subst (λ (n : ReplyName). has_reply_name d n ≡ true) (reply_equal p.reply (reply.Reply r) same) named
 
 form_reply : (d : Draft) (r t : ℕ) (e : Event) (f : CoreForm) → has_core_form d e f ≡ true → final_under (reply.Reply r) f ≡ Some t → has_message is_reply d r ≡ true

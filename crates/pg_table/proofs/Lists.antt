@@ -2,10 +2,8 @@
 use Rattle.std.proofs.Common.{◌≡◌, ◌≢◌, ℕ, zero, suc, ◌+◌, ◌<◌, ◌≤◌, ◌⊎◌, Bool, true, false, cond, ◌||◌, List, [], ◌∷◌, ◌++◌, Some, refl, sym, subst, ap, ◌∙◌, arith, inl, inr}
 use Rattle.std.specs.Prelude.{◌==◌, map, filter, slice_get}
 use Rattle.std.specs.List.{list_any, list_all, flat_map, range_with_len}
-use Rattle.std.proofs.lemmas.Bool.{eqb-true, eqb-false}
+use Rattle.std.proofs.lemmas.Bool.{eqb-true, eqb-false, and_parts, or_left, or_right}
 use Rattle.std.proofs.lemmas.Option.{same_Some}
-use Rattle.pg_perm.proofs.Booleans.{both}
-use Rattle.pg_shape.proofs.Searches.{or_left, or_right}
 
 -- x stands in the list
 abbrev pub IsIn : {X : Type 0} → X → List X → Type 0
@@ -50,8 +48,8 @@ in_any p x (y ∷ ys) (inr among) h = or_right (p y) (list_any p ys) (in_any p x
 
 pub all_in : {X : Type 0} (p : X → Bool) (x : X) (xs : List X) → list_all p xs ≡ true → IsIn x xs → p x ≡ true
 all_in p x [] h among = absurd among
-all_in p x (y ∷ ys) h (inl e) = ap p (sym e) ∙ (both (p y) _ h).0
-all_in p x (y ∷ ys) h (inr among) = all_in p x ys (both (p y) _ h).1 among
+all_in p x (y ∷ ys) h (inl e) = ap p (sym e) ∙ (and_parts (p y) _ h).0
+all_in p x (y ∷ ys) h (inr among) = all_in p x ys (and_parts (p y) _ h).1 among
 
 -- a test of what is made of each
 pub any_map : {X Y : Type 0} (p : Y → Bool) (f : X → Y) (xs : List X) → list_any p (map f xs) ≡ list_any (λ x. p (f x)) xs

@@ -57,7 +57,7 @@ shared_below d s e = (position_get (λ c. is_shared c.role) d.caches s e).0
 pub out_is : (d : Draft) → HasPerms d → out d ≡ Some (out_state d)
 out_is d perms = let (s, e) = perms.start in subst (λ (o : Option ℕ). o ≡ Some (unwrap_or o 0)) (sym e) refl
 
-out_one : (d : Draft) (s : ℕ) → out d ≡ Some s → out_state d ≡ s
+pub out_one : (d : Draft) (s : ℕ) → out d ≡ Some s → out_state d ≡ s
 out_one d s e = ap (λ (o : Option ℕ). unwrap_or o 0) e
 
 in_states : (d : Draft) (s : ℕ) → s < length d.caches → IsIn s (states d)

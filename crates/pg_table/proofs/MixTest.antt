@@ -1,13 +1,10 @@
 -- A test that states are those of a mixed table.
-use Rattle.std.proofs.Common.{◌≡◌, Bool, true, false, not, ◌&&◌, List, [], ◌∷◌, Option, Some, None, refl, sym, ap, ◌∙◌}
-use Rattle.std.specs.List.{list_all, IsDistinct, AllByRecursion}
-use Rattle.std.proofs.lemmas.Bool.{or_parts}
-use Rattle.pg_perm.proofs.Booleans.{both}
+use Rattle.std.proofs.Common.{◌≡◌, Bool, true, ◌&&◌, List, [], ◌∷◌, Option, Some, None, refl, sym, ap, ◌∙◌}
+use Rattle.std.specs.List.{list_all}
 use Rattle.pg_perm.specs.declared.kinds.Mode.{Mode}
 use Rattle.pg_perm.specs.declared.kinds.Mode.TheVariants as mode
 use Rattle.pg_perm.specs.declared.draft.Draft.{Draft}
 use Rattle.pg_perm.specs.Drafts.{IsWellFormed}
-use Rattle.pg_shape.proofs.Bools.{true_not}
 use Rattle.pg_shape.proofs.Cores.{four_and}
 use Rattle.pg_shape.proofs.Searches.{all_at}
 use Rattle.pg_table.specs.declared.cache.Desc.{Desc}
@@ -18,16 +15,11 @@ use Rattle.pg_table.specs.Generated.{inputs, chosen}
 use Rattle.pg_table.specs.Mixed.{IsMix}
 use Rattle.pg_table.specs.Tables.{same_desc}
 use Rattle.pg_table.specs.Sound.{is_among}
-use Rattle.pg_table.proofs.Numbers.{among_at}
+use Rattle.pg_table.proofs.Numbers.{are_apart, apart_distinct, among_at}
 use Rattle.pg_table.proofs.Lists.{IsIn, all_in}
 use Rattle.pg_table.proofs.Inputs.{choices_in}
 
 -- The test
-
--- no state stands twice
-abbrev are_apart : List Desc → Bool
-are_apart [] = true
-are_apart (s ∷ ss) = not (is_among ss s) && are_apart ss
 
 -- these are all among those
 abbrev are_among : List Desc → List Desc → Bool
@@ -43,21 +35,10 @@ abbrev all_lead : Draft → (Desc → Input → Mode) → List Desc → List Des
 all_lead d pick ss xs = list_all (λ s. list_all (λ i. leads_among ss (chosen (pick s i) (choices d s i))) (inputs d)) xs
 
 abbrev pub is_mix : Draft → (Desc → Input → Mode) → List Desc → Bool
-is_mix d pick ss = are_apart ss && are_among (descs d mode.Defer) ss && are_among ss (descs d mode.Stall)
+is_mix d pick ss = are_apart same_desc ss && are_among (descs d mode.Defer) ss && are_among ss (descs d mode.Stall)
     && all_lead d pick ss ss
 
 -- What it tells
-
-none_among : (s : Desc) (ss : List Desc) → is_among ss s ≡ false → AllByRecursion (λ x. same_desc s x ≡ false) ss
-none_among s [] h = tt
-none_among s (x ∷ ss) h = let (first, rest) = or_parts (same_desc s x) (is_among ss s) h in (first, none_among s ss rest)
-
-apart_distinct : (ss : List Desc) → are_apart ss ≡ true → IsDistinct same_desc ss
-unfolding IsDistinct
-apart_distinct [] h = tt
-apart_distinct (s ∷ ss) h =
-    let (none, rest) = both (not (is_among ss s)) (are_apart ss) h in
-    (none_among s ss (true_not (is_among ss s) none), apart_distinct ss rest)
 
 among_all : (ss xs : List Desc) (s : Desc) → are_among ss xs ≡ true → is_among xs s ≡ true → is_among ss s ≡ true
 among_all ss xs s all h = let (n, get) = among_at xs s h in all_at (is_among ss) xs n s all get
@@ -73,9 +54,9 @@ chosen_input d m s i c w e = at (choices d s i) refl e
 -- states that pass are those of a mixed table
 pub tested_mix : (d : Draft) (pick : Desc → Input → Mode) (ss : List Desc) → IsWellFormed d → is_mix d pick ss ≡ true → IsMix d pick ss
 tested_mix d pick ss w h =
-    let (apart, known, needed, onward) = four_and (are_apart ss) (are_among (descs d mode.Defer) ss) (are_among ss (descs d mode.Stall)) (all_lead d pick ss ss) h in
+    let (apart, known, needed, onward) = four_and (are_apart same_desc ss) (are_among (descs d mode.Defer) ss) (are_among ss (descs d mode.Stall)) (all_lead d pick ss ss) h in
     record {
-      distinct = apart_distinct ss apart;
+      distinct = apart_distinct same_desc ss apart;
       known = λ s. among_all (descs d mode.Defer) ss s known;
       needed = λ s. among_all ss (descs d mode.Stall) s needed;
       onward = λ s i c among chose.

@@ -1,5 +1,5 @@
 -- Mixed tables are sound, and so are the generated ones.
-use Rattle.std.proofs.Common.{◌≡◌, ℕ, zero, suc, true, List, [], ◌∷◌, map, Some, refl, sym, subst, ap, ◌∙◌}
+use Rattle.std.proofs.Common.{◌≡◌, true, List, [], ◌∷◌, map, Option, Some, refl, sym, subst, ap, ◌∙◌}
 use Rattle.std.specs.Prelude.{slice_get}
 use Rattle.std.specs.List.{IsDistinct}
 use Rattle.pg_perm.specs.declared.kinds.Mode.{Mode}
@@ -8,14 +8,14 @@ use Rattle.pg_perm.specs.Drafts.{IsWellFormed}
 use Rattle.pg_shape.specs.Shaped.{IsShaped}
 use Rattle.pg_table.specs.declared.cache.Desc.{Desc}
 use Rattle.pg_table.specs.declared.cache.Input.{Input}
-use Rattle.pg_table.specs.declared.table.TableState.{TableState}
+use Rattle.pg_table.specs.Controllers.{row_for, state_at}
 use Rattle.pg_table.specs.Descriptors.{descs}
 use Rattle.pg_table.specs.Choices.{Choice, choices}
-use Rattle.pg_table.specs.Generated.{chosen, row_for, GenState}
+use Rattle.pg_table.specs.Generated.{inputs, chosen}
 use Rattle.pg_table.specs.Mixed.{mixed_rows, mixed_table, IsMix}
-use Rattle.pg_table.specs.Tables.{same_desc, number_of, table_row, table_state, cache_table, home_table}
-use Rattle.pg_table.specs.Sound.{is_among, states_of, state_at, rows_for, Answers, IsSoundCache, IsSound}
-use Rattle.pg_table.proofs.Lists.{get_map}
+use Rattle.pg_table.specs.Tables.{TableState, same_desc, number_of, table_row, cache_table, home_table}
+use Rattle.pg_table.specs.Sound.{is_among, states_of, rows_for, Answers, IsSoundCache, IsSound}
+use Rattle.pg_table.proofs.ControllerRows.{states_listed, state_listed, state_whole}
 use Rattle.pg_table.proofs.Chosen.{one_chosen}
 use Rattle.pg_table.proofs.RowsFor.{rows_for_input, row_single}
 use Rattle.pg_table.proofs.Numbers.{at_among, number_of_at}
@@ -23,34 +23,15 @@ use Rattle.pg_table.proofs.Distinct.{descs_distinct}
 use Rattle.pg_table.proofs.Modes.{stall_among, among_defer}
 use Rattle.pg_table.proofs.Onward.{onward}
 
--- The states of a mixed table
-
--- a state with its rows
-abbrev pub whole : Draft → (Desc → Input → Mode) → Desc → GenState
-whole d pick s = record { desc = s; rows = mixed_rows d pick s }
-
-states_listed : (d : Draft) (pick : Desc → Input → Mode) (ss xs : List Desc) → states_of (map (table_state ss) (map (whole d pick) xs)) ≡ xs
-states_listed d pick ss [] = refl
-states_listed d pick ss (x ∷ xs) = ap (λ rest. x ∷ rest) (states_listed d pick ss xs)
-
-state_listed : (d : Draft) (pick : Desc → Input → Mode) (ss xs : List Desc) (n : ℕ) → state_at (map (table_state ss) (map (whole d pick) xs)) n ≡ slice_get xs n
-state_listed d pick ss [] n = refl
-state_listed d pick ss (x ∷ xs) zero = refl
-state_listed d pick ss (x ∷ xs) (suc n) = state_listed d pick ss xs n
-
--- a state of the table is one of the list with its rows
-pub state_whole : (d : Draft) (pick : Desc → Input → Mode) (ss xs : List Desc) (n : ℕ) (s : TableState) → slice_get (map (table_state ss) (map (whole d pick) xs)) n ≡ Some s
-    → (x : Desc) × (slice_get xs n ≡ Some x) × (table_state ss (whole d pick x) ≡ s)
-state_whole d pick ss xs n s h =
-    let (g, here, made) = get_map (table_state ss) (map (whole d pick) xs) n s h in
-    let (x, get, is) = get_map (whole d pick) xs n g here in
-    (x, get, ap (table_state ss) is ∙ made)
-
 -- The rows of a state
+
+-- the choice that is picked
+abbrev picked : Draft → (Desc → Input → Mode) → Desc → Input → Option Choice
+picked d pick s i = chosen (pick s i) (choices d s i)
 
 -- the number of a state is that of the state in the table
 numbered : (d : Draft) (pick : Desc → Input → Mode) (ss : List Desc) (s : Desc) → is_among ss s ≡ true → state_at (mixed_table d pick ss) (number_of ss s) ≡ Some s
-numbered d pick ss s h = state_listed d pick ss ss (number_of ss s) ∙ number_of_at ss s h
+numbered d pick ss s h = state_listed same_desc (picked d pick) (inputs d) ss ss (number_of ss s) ∙ number_of_at ss s h
 
 answers_for : (d : Draft) (pick : Desc → Input → Mode) (ss : List Desc) (x : Desc) (i : Input) (cs : List Choice) → IsWellFormed d → IsShaped d → IsMix d pick ss
     → is_among ss x ≡ true → choices d x i ≡ cs → Answers (mixed_table d pick ss) cs (rows_for i (map (table_row ss) (mixed_rows d pick x)))
@@ -71,16 +52,16 @@ sound_cache d pick ss w sh mix = record {
   known = λ s h. mix.known s (subst (λ ss. is_among ss s ≡ true) names h);
   needed = λ s h. subst (λ ss. is_among ss s ≡ true) (sym names) (mix.needed s h);
   answers = λ n s i h.
-      let (x, get, is) = state_whole d pick ss ss n s h in
+      let (x, get, is) = state_whole same_desc (picked d pick) (inputs d) ss n s h in
       subst (λ (s : TableState). Answers (mixed_table d pick ss) (choices d s.desc i) (rows_for i s.rows)) is
       (answers_for d pick ss x i (choices d x i) w sh mix (at_among ss n x get) refl);
   single = λ n k s r h g.
-      let (x, get, is) = state_whole d pick ss ss n s h in
+      let (x, get, is) = state_whole same_desc (picked d pick) (inputs d) ss n s h in
       row_single ss (mixed_rows d pick x) k r (subst (λ (s : TableState). slice_get s.rows k ≡ Some r) (sym is) g);
 }
   where
     names : states_of (mixed_table d pick ss) ≡ ss
-    names = states_listed d pick ss ss
+    names = states_listed same_desc (picked d pick) (inputs d) ss ss
 
 -- mixed tables are sound
 pub mixed_is_sound : (d : Draft) (pick : Desc → Input → Mode) (ss : List Desc) → IsWellFormed d → IsShaped d → IsMix d pick ss

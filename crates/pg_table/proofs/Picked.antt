@@ -7,11 +7,10 @@ use Rattle.pg_perm.specs.declared.draft.Draft.{Draft}
 use Rattle.pg_table.specs.declared.cache.Act.{Act}
 use Rattle.pg_table.specs.declared.cache.Desc.{Desc}
 use Rattle.pg_table.specs.declared.cache.Input.{Input}
-use Rattle.pg_table.specs.declared.cache.Row.{Row}
-use Rattle.pg_table.specs.declared.table.TableState.{TableState}
+use Rattle.pg_table.specs.Controllers.{state_at}
 use Rattle.pg_table.specs.Choices.{Choice, choices}
-use Rattle.pg_table.specs.Tables.{number_of}
-use Rattle.pg_table.specs.Sound.{is_among, states_of, state_at, IsSoundCache}
+use Rattle.pg_table.specs.Tables.{Row, TableState, number_of}
+use Rattle.pg_table.specs.Sound.{is_among, states_of, IsSoundCache}
 use Rattle.pg_table.specs.Pick.{choice_in, pick}
 use Rattle.pg_table.proofs.Lists.{get_map}
 use Rattle.pg_table.proofs.Numbers.{at_among, number_of_at}

@@ -1,86 +1,54 @@
 -- Tests that two are the same pass just where the two are equal.
-use Rattle.std.proofs.Common.{◌≡◌, true, refl, ap}
-use Rattle.std.specs.Prelude.{◌==◌}
-use Rattle.std.proofs.lemmas.Bool.{eqb-true, eq-eqb}
-use Rattle.pg_perm.proofs.Booleans.{both}
-use Rattle.pg_perm.specs.declared.kinds.Event.{Event}
-use Rattle.pg_perm.specs.declared.kinds.Event.TheVariants.{Load, Store, Evict}
-use Rattle.pg_terms.specs.Terms.{same_event, same_request, same_who, same_left}
+use Rattle.std.proofs.Common.{◌≡◌, Bool, true, refl, ap}
+use Rattle.std.specs.Prelude.{◌==◌, ◌&&◌}
+use Rattle.std.proofs.lemmas.Bool.{eqb-true, eq-eqb, and_parts}
+use denote.Enum.Bare.{sameb, same_true, true_same}
+use Rattle.pg_perm.specs.contracts.kinds.Event.{the_type as event_type}
+use Rattle.pg_perm.specs.contracts.kinds.ReqClass.{the_type as request_type}
+use Rattle.pg_perm.specs.contracts.kinds.Who.{the_type as who_type}
+use Rattle.pg_perm.specs.contracts.kinds.Left.{the_type as left_type}
 use Rattle.pg_shape.proofs.Bools.{and_both}
-use Rattle.pg_shape.proofs.Cores.{four_and}
-use Rattle.pg_shape.proofs.Shaped.{request_equal, request_same, who_equal, who_same, left_equal, left_same}
+use Rattle.pg_table.specs.contracts.cache.Phase.{the_type as phase_type}
+use Rattle.pg_table.specs.contracts.cache.Tag.{the_type as tag_type}
 use Rattle.pg_table.specs.declared.cache.Desc.{Desc}
 use Rattle.pg_table.specs.declared.cache.Desc.TheVariants.{Stable, Ask, Leave}
-use Rattle.pg_table.specs.declared.cache.Phase.{Phase}
-use Rattle.pg_table.specs.declared.cache.Phase.TheVariants.{D, Ad, Ac, A}
-use Rattle.pg_table.specs.declared.cache.Tag.{Tag}
-use Rattle.pg_table.specs.declared.cache.Tag.TheVariants.{Plain, Kept, Gave, Gone}
 use Rattle.pg_table.specs.declared.cache.Input.{Input}
 use Rattle.pg_table.specs.declared.cache.Input.TheVariants as at
 use Rattle.pg_table.specs.declared.home.DirDesc.{DirDesc}
 use Rattle.pg_table.specs.declared.home.DirDesc.TheVariants.{State, Busy}
 use Rattle.pg_table.specs.declared.home.DirInput.{DirInput}
 use Rattle.pg_table.specs.declared.home.DirInput.TheVariants as met
-use Rattle.pg_table.specs.Tables.{same_phase, same_tag, same_desc, same_input, same_dir_desc, same_dir_input}
+use Rattle.pg_table.specs.Tables.{same_desc, same_input, same_dir_desc, same_dir_input}
 
--- Events
-
-same_event_is : (a b : Event) → same_event a b ≡ true → a ≡ b
-same_event_is Load Load h = refl
-same_event_is Store Store h = refl
-same_event_is Evict Evict h = refl
-same_event_is _ _ h = absurd cc
-
-same_event_self : (a : Event) → same_event a a ≡ true
-same_event_self Load = refl
-same_event_self Store = refl
-same_event_self Evict = refl
+-- a test passes just where two are equal
+pub record IsSame {X : Type 0} (same : X → X → Bool) : Type 0 where
+  pub is : (a b : X) → same a b ≡ true → a ≡ b
+  pub self : (a : X) → same a a ≡ true
 
 -- States of caches
-
-same_phase_is : (a b : Phase) → same_phase a b ≡ true → a ≡ b
-same_phase_is D D h = refl
-same_phase_is Ad Ad h = refl
-same_phase_is Ac Ac h = refl
-same_phase_is A A h = refl
-same_phase_is _ _ h = absurd cc
-
-same_phase_self : (a : Phase) → same_phase a a ≡ true
-same_phase_self D = refl
-same_phase_self Ad = refl
-same_phase_self Ac = refl
-same_phase_self A = refl
-
-same_tag_is : (a b : Tag) → same_tag a b ≡ true → a ≡ b
-same_tag_is Plain Plain h = refl
-same_tag_is Kept Kept h = refl
-same_tag_is Gave Gave h = refl
-same_tag_is Gone Gone h = refl
-same_tag_is _ _ h = absurd cc
-
-same_tag_self : (a : Tag) → same_tag a a ≡ true
-same_tag_self Plain = refl
-same_tag_self Kept = refl
-same_tag_self Gave = refl
-same_tag_self Gone = refl
 
 pub same_desc_is : (a b : Desc) → same_desc a b ≡ true → a ≡ b
 same_desc_is (Stable s) (Stable t) h = ap (λ n. Stable n) (eqb-true s t h)
 same_desc_is (Ask e s p a) (Ask f t q b) h =
-    let (events, starts, phases, tags) = four_and (same_event e f) (s == t) (same_phase p q) (same_tag a b) h in
-    cc (same_event_is e f events, eqb-true s t starts, same_phase_is p q phases, same_tag_is a b tags)
+    let (events, more) = and_parts (sameb event_type e f) ((s == t) && (sameb phase_type p q && sameb tag_type a b)) h in
+    let (starts, last) = and_parts (s == t) (sameb phase_type p q && sameb tag_type a b) more in
+    let (phases, tags) = and_parts (sameb phase_type p q) (sameb tag_type a b) last in
+    cc (same_true event_type tt e f events, eqb-true s t starts, same_true phase_type tt p q phases, same_true tag_type tt a b tags)
 same_desc_is (Leave s) (Leave t) h = ap (λ n. Leave n) (eqb-true s t h)
 same_desc_is _ _ h = absurd cc
 
 pub same_desc_self : (a : Desc) → same_desc a a ≡ true
 same_desc_self (Stable s) = eq-eqb s s refl
-same_desc_self (Ask e s p a) = rw (same_event_self e, eq-eqb s s refl, same_phase_self p, same_tag_self a) refl
+same_desc_self (Ask e s p a) = rw (true_same event_type e e refl, eq-eqb s s refl, true_same phase_type p p refl, true_same tag_type a a refl) refl
 same_desc_self (Leave s) = eq-eqb s s refl
+
+pub desc_same : IsSame same_desc
+desc_same = record { is = same_desc_is; self = same_desc_self }
 
 -- Inputs of caches
 
 pub same_input_is : (a b : Input) → same_input a b ≡ true → a ≡ b
-same_input_is (at.Core e) (at.Core f) h = ap (λ x. at.Core x) (same_event_is e f h)
+same_input_is (at.Core e) (at.Core f) h = ap (λ x. at.Core x) (same_true event_type tt e f h)
 same_input_is (at.Forward n) (at.Forward m) h = ap (λ x. at.Forward x) (eqb-true n m h)
 same_input_is at.CountAll at.CountAll h = refl
 same_input_is at.CountPart at.CountPart h = refl
@@ -92,15 +60,14 @@ same_input_is at.AckLast at.AckLast h = refl
 same_input_is _ _ h = absurd cc
 
 pub same_input_self : (a : Input) → same_input a a ≡ true
-same_input_self (at.Core e) = same_event_self e
+same_input_self (at.Core e) = true_same event_type e e refl
 same_input_self (at.Forward n) = eq-eqb n n refl
-same_input_self at.CountAll = refl
-same_input_self at.CountPart = refl
-same_input_self at.PutAck = refl
 same_input_self (at.DataAll n) = eq-eqb n n refl
 same_input_self (at.DataPart n) = eq-eqb n n refl
-same_input_self at.AckMore = refl
-same_input_self at.AckLast = refl
+same_input_self _ = refl
+
+pub input_same : IsSame same_input
+input_same = record { is = same_input_is; self = same_input_self }
 
 -- States of the directory
 
@@ -113,23 +80,29 @@ pub same_dir_desc_self : (a : DirDesc) → same_dir_desc a a ≡ true
 same_dir_desc_self (State n) = eq-eqb n n refl
 same_dir_desc_self (Busy n) = eq-eqb n n refl
 
+pub dir_desc_same : IsSame same_dir_desc
+dir_desc_same = record { is = same_dir_desc_is; self = same_dir_desc_self }
+
 -- Inputs of the directory
 
-pub same_dir_input_is : (a b : DirInput) → same_dir_input a b ≡ true → a ≡ b
+same_dir_input_is : (a b : DirInput) → same_dir_input a b ≡ true → a ≡ b
 same_dir_input_is (met.Ask a w) (met.Ask b v) h =
-    let (requests, senders) = both (same_request a b) (same_who w v) h in cc (request_equal a b requests, who_equal w v senders)
+    let (requests, senders) = and_parts (sameb request_type a b) (sameb who_type w v) h in
+    cc (same_true request_type tt a b requests, same_true who_type tt w v senders)
 same_dir_input_is (met.Evict w l) (met.Evict v m) h =
-    let (senders, lefts) = both (same_who w v) (same_left l m) h in cc (who_equal w v senders, left_equal l m lefts)
+    let (senders, lefts) = and_parts (sameb who_type w v) (sameb left_type l m) h in
+    cc (same_true who_type tt w v senders, same_true left_type tt l m lefts)
 same_dir_input_is met.EvictNone met.EvictNone h = refl
-same_dir_input_is (met.BusyAsk a) (met.BusyAsk b) h = ap (λ x. met.BusyAsk x) (request_equal a b h)
+same_dir_input_is (met.BusyAsk a) (met.BusyAsk b) h = ap (λ x. met.BusyAsk x) (same_true request_type tt a b h)
 same_dir_input_is met.BusyEvict met.BusyEvict h = refl
 same_dir_input_is met.Wb met.Wb h = refl
 same_dir_input_is _ _ h = absurd cc
 
-pub same_dir_input_self : (a : DirInput) → same_dir_input a a ≡ true
-same_dir_input_self (met.Ask a w) = and_both (same_request a a) (same_who w w) (request_same a) (who_same w)
-same_dir_input_self (met.Evict w l) = and_both (same_who w w) (same_left l l) (who_same w) (left_same l)
-same_dir_input_self met.EvictNone = refl
-same_dir_input_self (met.BusyAsk a) = request_same a
-same_dir_input_self met.BusyEvict = refl
-same_dir_input_self met.Wb = refl
+same_dir_input_self : (a : DirInput) → same_dir_input a a ≡ true
+same_dir_input_self (met.Ask a w) = and_both (sameb request_type a a) (sameb who_type w w) (true_same request_type a a refl) (true_same who_type w w refl)
+same_dir_input_self (met.Evict w l) = and_both (sameb who_type w w) (sameb left_type l l) (true_same who_type w w refl) (true_same left_type l l refl)
+same_dir_input_self (met.BusyAsk a) = true_same request_type a a refl
+same_dir_input_self _ = refl
+
+pub dir_input_same : IsSame same_dir_input
+dir_input_same = record { is = same_dir_input_is; self = same_dir_input_self }

@@ -3,10 +3,9 @@ use Rattle.std.proofs.Common.{◌≡◌, ◌↔◌, ℕ, Bool, true, false, cond
 use Rattle.std.specs.Prelude.{is_some}
 use Rattle.std.specs.Option.{option_and_then}
 use Rattle.std.specs.List.{list_any, list_all}
-use Rattle.std.proofs.lemmas.Bool.{or_from, not_from_false}
+use Rattle.std.proofs.lemmas.Bool.{or_from, not_from_false, and_parts, not-true}
 use Rattle.std.proofs.lemmas.Option.{same_Some}
 use Rattle.std.proofs.lemmas.List.Folds.{list_any-append}
-use Rattle.pg_perm.proofs.Booleans.{both}
 use Rattle.pg_perm.specs.declared.kinds.Event.{Event}
 use Rattle.pg_perm.specs.declared.kinds.Event.TheVariants.{Load, Store, Evict}
 use Rattle.pg_perm.specs.declared.kinds.Mode.{Mode}
@@ -18,7 +17,7 @@ use Rattle.pg_perm.specs.declared.draft.ReplyName.TheVariants as reply
 use Rattle.pg_terms.specs.Terms.{is, cache_is, out, shared, request_of, has_class, core_row, take_row}
 use Rattle.pg_terms.specs.Due.{is_due}
 use Rattle.pg_terms.specs.Rows.{allows, store_next, final}
-use Rattle.pg_shape.proofs.Bools.{true_not, and_both}
+use Rattle.pg_shape.proofs.Bools.{and_both}
 use Rattle.pg_shape.proofs.Searches.{not_both}
 use Rattle.pg_table.specs.declared.cache.Desc.{Desc}
 use Rattle.pg_table.specs.declared.cache.Desc.TheVariants.{Stable, Ask, Leave}
@@ -128,13 +127,13 @@ WaitsOrNot cs = (c e : Choice) × (cs ≡ c ∷ e ∷ []) × (c.acts ≡ act.Sta
 later_is : (d : Draft) (s : ℕ) (e : Event) (p : Phase) (t : Tag) (f : ℕ) → is_later d s e t f ≡ true → later d s e p t f ≡ waiting s e p t ∷ taken d s e p f ∷ []
 later_is d s e p t f h = ap (λ b. cond b (waiting s e p t ∷ taken d s e p f ∷ []) []) h
 
--- at a later forward there are both
+-- at a later forward there are and_parts
 pub both_choices : (d : Draft) (e : Event) (s : ℕ) (p : Phase) (t : Tag) (f : ℕ) → is_later_at d (Ask e s p t) (at.Forward f) ≡ true
     → choices d (Ask e s p t) (at.Forward f) ≡ waiting s e p t ∷ taken d s e p f ∷ []
 both_choices d Load s D t f h = later_is d s Load D t f h
 both_choices d Store s Ad t f h =
-    let (no_first, comes) = both (not (is_earlier d s t f)) (is_later d s Store t f) h in
-    ap (λ b. cond b (earlier d s f) (later d s Store Ad t f)) (true_not (is_earlier d s t f) no_first) ∙ later_is d s Store Ad t f comes
+    let (no_first, comes) = and_parts (not (is_earlier d s t f)) (is_later d s Store t f) h in
+    ap (λ b. cond b (earlier d s f) (later d s Store Ad t f)) (not-true (is_earlier d s t f) no_first) ∙ later_is d s Store Ad t f comes
 both_choices d Store s A t f h = later_is d s Store A t f h
 both_choices d _ _ _ _ _ h = absurd cc
 
@@ -164,7 +163,7 @@ behind d _ _ h = absurd cc
 
 -- where no forward is later, no stall is chosen
 pub others_go_on : (d : Draft) (m : Mode) (s : Desc) (i : Input) (c : Choice) → chosen m (choices d s i) ≡ Some c → is_later_at d s i ≡ false → list_any is_stall c.acts ≡ false
-others_go_on d m s i c e h = true_not (list_any is_stall c.acts) (chosen_passes goes_on m c (choices d s i) (others d s i h) e)
+others_go_on d m s i c e h = not-true (list_any is_stall c.acts) (chosen_passes goes_on m c (choices d s i) (others d s i h) e)
 
 behind_waits : (d : Draft) (s : Desc) (i : Input) (c : Choice) → chosen mode.Stall (choices d s i) ≡ Some c → is_later_at d s i ≡ true → c.acts ≡ act.Stall ∷ []
 behind_waits d s i c e h =
@@ -186,5 +185,5 @@ none_waits d s i c e = at (is_later_at d s i) refl
     at : (b : Bool) → is_later_at d s i ≡ b → list_any is_stall c.acts ≡ false
     at true h =
         let (a, b, is, waits, on) = behind d s i h in
-        true_not (list_any is_stall c.acts) (ap goes_on (sym (same_Some b c (ap (chosen mode.Defer) (sym is) ∙ e))) ∙ on)
+        not-true (list_any is_stall c.acts) (ap goes_on (sym (same_Some b c (ap (chosen mode.Defer) (sym is) ∙ e))) ∙ on)
     at false h = others_go_on d mode.Defer s i c e h

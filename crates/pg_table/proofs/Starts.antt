@@ -2,7 +2,7 @@
 use Rattle.std.proofs.Common.{◌≡◌, ℕ, ◌<◌, Bool, true, false, not, ◌&&◌, length, Option, Some, None, refl, sym, subst, ap, ◌∙◌, inl, inr}
 use Rattle.std.specs.Prelude.{slice_get, is_some, if◌then◌else◌}
 use Rattle.std.specs.Option.{option_map_or}
-use Rattle.pg_perm.proofs.Booleans.{both}
+use Rattle.std.proofs.lemmas.Bool.{and_parts, or_left, or_right}
 use Rattle.pg_perm.specs.declared.kinds.Role.{Role}
 use Rattle.pg_perm.specs.declared.kinds.Role.TheVariants as role
 use Rattle.pg_perm.specs.declared.kinds.Event.{Event}
@@ -20,7 +20,7 @@ use Rattle.pg_terms.specs.Due.{is_due}
 use Rattle.pg_terms.specs.Rows.{allows, may_keep}
 use Rattle.pg_shape.specs.Shaped.{HasPerms, IsShaped}
 use Rattle.pg_shape.proofs.Bools.{and_both}
-use Rattle.pg_shape.proofs.Searches.{or_left, or_right, position_get, get_below, map_or_get}
+use Rattle.pg_shape.proofs.Searches.{position_get, get_below, map_or_get}
 use Rattle.pg_shape.proofs.Cores.{at_cache, none_writes_not, read_writes_not}
 use Rattle.pg_standing.proofs.Facts.{is_first_of_class, kept, owner_reads}
 use Rattle.pg_table.specs.declared.cache.Desc.TheVariants.{Ask}
@@ -46,7 +46,7 @@ start_denies d s perms (inr (inl e)) =
     (c, get, read_writes_not c.perm (perms.shared_read s c get role).1)
 start_denies d s perms (inr (inr h)) =
     let (c, get, reads) = map_or_get is_read_owner (slice_get d.caches s) h in
-    (c, get, read_writes_not c.perm (both (is_owner c.role) (is_read_perm c.perm) reads).1)
+    (c, get, read_writes_not c.perm (and_parts (is_owner c.role) (is_read_perm c.perm) reads).1)
 
 -- a state without the permission to write is one in which a store asks
 pub denied_starts : (d : Draft) (s : ℕ) → HasPerms d → s < length d.caches → cache_is (allows Store) d s ≡ false → IsStart d s
@@ -154,7 +154,7 @@ later_tagged d s event Plain f shape h =
     in_any (λ x. is_some (after d x (tag_by d f))) x (finals d s event) there (due_tagged d x f shape due)
 later_tagged d s event Kept f shape h =
     let (x, there, keeps) = any_in (λ x. may_keep d x && option_map_or (λ k. is_due d k f) (keep_of d x) false) (finals d s event) h in
-    let (may, leads) = both (may_keep d x) (option_map_or (λ k. is_due d k f) (keep_of d x) false) keeps in
+    let (may, leads) = and_parts (may_keep d x) (option_map_or (λ k. is_due d k f) (keep_of d x) false) keeps in
     let (k, kept, due) = map_or_get (λ k. is_due d k f) (keep_of d x) leads in
     in_any (λ x. is_some (after d x (tag_by d f))) x (finals d s event) there (kept_tagged d x k f shape may kept due)
 later_tagged d s event Gave f shape h = absurd cc

@@ -4,7 +4,7 @@ use Rattle.std.specs.Prelude.{slice_get}
 use Rattle.std.specs.Option.{option_map_or}
 use Rattle.std.specs.List.{list_any}
 use Rattle.std.proofs.lemmas.Option.{same_Some}
-use Rattle.pg_perm.proofs.Booleans.{both}
+use Rattle.std.proofs.lemmas.Bool.{and_parts, or_left, or_right}
 use Rattle.pg_perm.specs.declared.kinds.Role.{Role}
 use Rattle.pg_perm.specs.declared.kinds.Role.TheVariants as role
 use Rattle.pg_perm.specs.declared.kinds.Event.{Event}
@@ -18,7 +18,7 @@ use Rattle.pg_terms.specs.Due.{is_to_owner, is_passed_to, is_due}
 use Rattle.pg_terms.specs.Rows.{may_keep}
 use Rattle.pg_shape.specs.Shaped.{IsShaped}
 use Rattle.pg_shape.proofs.Bools.{three_and, and_both, one_of}
-use Rattle.pg_shape.proofs.Searches.{not_true, or_left, or_right, any_get, any_at, position_get, map_or_get}
+use Rattle.pg_shape.proofs.Searches.{not_true, any_get, any_at, position_get, map_or_get}
 use Rattle.pg_shape.proofs.Shaped.{is_one}
 use Rattle.pg_standing.proofs.Facts.{one_class, first_has_class, is_first_of_class, kept}
 use Rattle.pg_table.specs.declared.cache.Tag.{Tag}
@@ -60,7 +60,7 @@ due_owner d x g class due of other = at (one_of (is (shared d) x && is (forward_
     at : ((is (shared d) x && is (forward_of d Inv) g) ≡ true)
         ⊎ ((cache_is (λ c. is_owner c.role) d x && is_to_owner d g && list_any (is_passed_to d x g) d.rows) ≡ true)
         → cache_is (λ c. is_owner c.role) d x ≡ true
-    at (inl inv) = absurd (other (one_class d g class Inv of (first_has_class d Inv g (is_one (forward_of d Inv) g (both (is (shared d) x) _ inv).1))))
+    at (inl inv) = absurd (other (one_class d g class Inv of (first_has_class d Inv g (is_one (forward_of d Inv) g (and_parts (is (shared d) x) _ inv).1))))
     at (inr owned) = (three_and (cache_is (λ c. is_owner c.role) d x) (is_to_owner d g) _ owned).0
 
 -- Tags
@@ -148,7 +148,7 @@ pub later_due : (d : Draft) (s : ℕ) (e : Event) (t : Tag) (g : ℕ) → is_lat
 later_due d s e Plain g h = let (k, f, get, due) = any_get (λ x. is_due d x g) (finals d s e) h in (k, f, f, get, refl, due)
 later_due d s e Kept g h =
     let (k, f, get, both_so) = any_get (λ x. may_keep d x && option_map_or (λ k. is_due d k g) (keep_of d x) false) (finals d s e) h in
-    let (may, leads) = both (may_keep d f) _ both_so in
+    let (may, leads) = and_parts (may_keep d f) _ both_so in
     let (x, o, due) = map_or_get (λ k. is_due d k g) (keep_of d f) leads in
     (k, f, x, get, some_if (may_keep d f) (keep_of d f) x may o, due)
 later_due d s e Gave g h = absurd cc

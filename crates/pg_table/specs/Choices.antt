@@ -24,11 +24,12 @@ use Rattle.pg_table.specs.declared.cache.Input.{Input}
 use Rattle.pg_table.specs.declared.cache.Input.TheVariants as at
 use Rattle.pg_table.specs.declared.cache.Act.{Act}
 use Rattle.pg_table.specs.declared.cache.Act.TheVariants as act
+use Rattle.pg_table.specs.Controllers.{ControllerChoice}
 use Rattle.pg_table.specs.Descriptors.{out_state, after, finals, store_phase}
 
-pub record Choice : Type 0 where
-  pub acts : List Act
-  pub next : Desc
+-- the acts that are done at an input, and the state that they lead to
+abbrev pub Choice : Type 0
+Choice = ControllerChoice Desc Act
 
 -- one choice
 abbrev pub only : List Act → Desc → List Choice

@@ -11,6 +11,8 @@ use Rattle.pg_perm.specs.declared.draft.MsgClass.{MsgClass}
 use Rattle.pg_table.specs.declared.cache.Desc.{Desc}
 use Rattle.pg_table.specs.declared.cache.Input.{Input}
 use Rattle.pg_table.specs.declared.cache.Input.TheVariants as at
+use Rattle.pg_table.specs.declared.cache.Act.{Act}
+use Rattle.pg_table.specs.Controllers.{GeneratedRow, GeneratedState, rows_by, state_by}
 use Rattle.pg_table.specs.Descriptors.{descs}
 use Rattle.pg_table.specs.Choices.{Choice, choices}
 
@@ -32,22 +34,16 @@ chosen m (c ∷ []) = Some c
 chosen mode.Stall (c ∷ cs) = Some c
 chosen mode.Defer (c ∷ e ∷ cs) = Some e
 
-pub record GenRow : Type 0 where
-  pub input : Input
-  pub choice : Choice
+abbrev pub GenRow : Type 0
+GenRow = GeneratedRow Desc Input Act
 
-abbrev pub row_for : Input → Option Choice → List GenRow
-row_for i None = []
-row_for i (Some c) = record { input = i; choice = c } ∷ []
+abbrev pub GenState : Type 0
+GenState = GeneratedState Desc Input Act
 
 -- the rows of a state
 abbrev pub rows_of : Draft → Mode → Desc → List GenRow
-rows_of d m s = flat_map (λ i. row_for i (chosen m (choices d s i))) (inputs d)
-
-pub record GenState : Type 0 where
-  pub desc : Desc
-  pub rows : List GenRow
+rows_of d m s = rows_by (λ i. chosen m (choices d s i)) (inputs d)
 
 -- the states with their rows
 abbrev pub generated : Draft → Mode → List GenState
-generated d m = map (λ s. record { desc = s; rows = rows_of d m s }) (descs d m)
+generated d m = map (state_by (λ s i. chosen m (choices d s i)) (inputs d)) (descs d m)

@@ -23,6 +23,7 @@ use Rattle.pg_table.specs.declared.home.DirInput.{DirInput}
 use Rattle.pg_table.specs.declared.home.DirInput.TheVariants as at
 use Rattle.pg_table.specs.declared.home.DirAct.{DirAct}
 use Rattle.pg_table.specs.declared.home.DirAct.TheVariants as act
+use Rattle.pg_table.specs.Controllers.{ControllerChoice, GeneratedRow, GeneratedState, rows_by, state_by}
 
 -- a row that passes a request on by a share leads to this state
 abbrev pub is_after_share : Draft → ℕ → Bool
@@ -38,9 +39,9 @@ home_inputs = at.Ask Read Other ∷ at.Ask Write Other ∷ at.Ask Write Sharer �
     ∷ at.Evict Owner Last ∷ at.Evict Owner More ∷ at.Evict Sharer Last ∷ at.Evict Sharer More ∷ at.EvictNone
     ∷ at.BusyAsk Read ∷ at.BusyAsk Write ∷ at.BusyEvict ∷ at.Wb ∷ []
 
-pub record HomeChoice : Type 0 where
-  pub acts : List DirAct
-  pub next : DirDesc
+-- the acts that are done at an input, and the state that they lead to
+abbrev pub HomeChoice : Type 0
+HomeChoice = ControllerChoice DirDesc DirAct
 
 abbrev pub acts_of : Action → DirAct
 acts_of (action.Reply m) = act.Reply m
@@ -87,22 +88,16 @@ abbrev pub home_choice : Draft → DirDesc → DirInput → Option HomeChoice
 home_choice d (State n) i = in_state d n i
 home_choice d (Busy n) i = when_busy n i
 
-pub record HomeRow : Type 0 where
-  pub input : DirInput
-  pub choice : HomeChoice
+abbrev pub HomeRow : Type 0
+HomeRow = GeneratedRow DirDesc DirInput DirAct
 
-abbrev pub home_row_for : DirInput → Option HomeChoice → List HomeRow
-home_row_for i None = []
-home_row_for i (Some c) = record { input = i; choice = c } ∷ []
+abbrev pub HomeState : Type 0
+HomeState = GeneratedState DirDesc DirInput DirAct
 
 -- the rows of a state
 abbrev pub home_rows : Draft → DirDesc → List HomeRow
-home_rows d s = flat_map (λ i. home_row_for i (home_choice d s i)) home_inputs
-
-pub record HomeState : Type 0 where
-  pub desc : DirDesc
-  pub rows : List HomeRow
+home_rows d s = rows_by (home_choice d s) home_inputs
 
 -- the states with their rows, which are the same in both modes
 abbrev pub home_generated : Draft → List HomeState
-home_generated d = map (λ s. record { desc = s; rows = home_rows d s }) (home_descs d)
+home_generated d = map (state_by (home_choice d) home_inputs) (home_descs d)

@@ -1,3 +1,4 @@
+pub mod Controllers
 pub mod Descriptors
 pub mod Choices
 pub mod Generated

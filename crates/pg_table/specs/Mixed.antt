@@ -6,24 +6,24 @@ use Rattle.pg_perm.specs.declared.kinds.Mode.TheVariants as mode
 use Rattle.pg_perm.specs.declared.draft.Draft.{Draft}
 use Rattle.pg_table.specs.declared.cache.Desc.{Desc}
 use Rattle.pg_table.specs.declared.cache.Input.{Input}
-use Rattle.pg_table.specs.declared.table.TableState.{TableState}
+use Rattle.pg_table.specs.Controllers.{rows_by, state_by, table_by}
 use Rattle.pg_table.specs.Descriptors.{descs}
 use Rattle.pg_table.specs.Choices.{Choice, choices}
-use Rattle.pg_table.specs.Generated.{inputs, chosen, GenRow, row_for, GenState}
-use Rattle.pg_table.specs.Tables.{same_desc, table_state}
+use Rattle.pg_table.specs.Generated.{inputs, chosen, GenRow, GenState}
+use Rattle.pg_table.specs.Tables.{TableState, same_desc}
 use Rattle.pg_table.specs.Sound.{is_among}
 
 -- the rows of a state, where it is picked for each state and input which of two choices is made
 abbrev pub mixed_rows : Draft → (Desc → Input → Mode) → Desc → List GenRow
-mixed_rows d pick s = flat_map (λ i. row_for i (chosen (pick s i) (choices d s i))) (inputs d)
+mixed_rows d pick s = rows_by (λ i. chosen (pick s i) (choices d s i)) (inputs d)
 
 -- these states with their rows
 abbrev pub mixed : Draft → (Desc → Input → Mode) → List Desc → List GenState
-mixed d pick states = map (λ s. record { desc = s; rows = mixed_rows d pick s }) states
+mixed d pick states = map (state_by (λ s i. chosen (pick s i) (choices d s i)) (inputs d)) states
 
 -- the table of these states, in which they have numbers
 abbrev pub mixed_table : Draft → (Desc → Input → Mode) → List Desc → List TableState
-mixed_table d pick states = map (table_state states) (mixed d pick states)
+mixed_table d pick states = table_by same_desc (λ s i. chosen (pick s i) (choices d s i)) (inputs d) states
 
 -- these are the states of a mixed table
 pub record IsMix (d : Draft) (pick : Desc → Input → Mode) (states : List Desc) : Type 0 where

@@ -3,11 +3,10 @@ use Rattle.std.specs.Prelude.{List, Option}
 use Rattle.std.specs.Option.{option_map, option_and_then}
 use Rattle.pg_table.specs.declared.cache.Desc.{Desc}
 use Rattle.pg_table.specs.declared.cache.Input.{Input}
-use Rattle.pg_table.specs.declared.cache.Row.{Row}
-use Rattle.pg_table.specs.declared.table.TableState.{TableState}
+use Rattle.pg_table.specs.Controllers.{state_at}
 use Rattle.pg_table.specs.Choices.{Choice}
-use Rattle.pg_table.specs.Tables.{number_of, find_row}
-use Rattle.pg_table.specs.Sound.{states_of, state_at}
+use Rattle.pg_table.specs.Tables.{Row, TableState, number_of, find_row}
+use Rattle.pg_table.specs.Sound.{states_of}
 
 -- a row as a choice: what it does, and the state that its number is of
 abbrev pub choice_in : List TableState → Row → Option Choice

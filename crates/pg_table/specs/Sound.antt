@@ -7,28 +7,22 @@ use Rattle.pg_perm.specs.declared.kinds.Mode.TheVariants as mode
 use Rattle.pg_perm.specs.declared.draft.Draft.{Draft}
 use Rattle.pg_table.specs.declared.cache.Desc.{Desc}
 use Rattle.pg_table.specs.declared.cache.Input.{Input}
-use Rattle.pg_table.specs.declared.cache.Row.{Row}
-use Rattle.pg_table.specs.declared.table.TableState.{TableState}
-use Rattle.pg_table.specs.declared.dir_table.DirTableState.{DirTableState}
+use Rattle.pg_table.specs.Controllers.{rows_for_by, is_among_by, state_at}
 use Rattle.pg_table.specs.Descriptors.{descs}
 use Rattle.pg_table.specs.Choices.{Choice, choices}
-use Rattle.pg_table.specs.Tables.{has_input, same_desc, home_table}
+use Rattle.pg_table.specs.Tables.{Row, TableState, DirTableState, same_input, same_desc, home_table}
 
 -- a state is among these
 abbrev pub is_among : List Desc → Desc → Bool
-is_among states s = list_any (same_desc s) states
+is_among = is_among_by same_desc
 
 -- the states that a table has
 abbrev pub states_of : List TableState → List Desc
 states_of t = map (λ s. s.desc) t
 
--- the state that a number is of
-abbrev pub state_at : List TableState → ℕ → Option Desc
-state_at t n = option_map (λ s. s.desc) (slice_get t n)
-
 -- the rows for an input
 abbrev pub rows_for : Input → List Row → List Row
-rows_for i rows = filter (λ r. has_input r.inputs i) rows
+rows_for = rows_for_by same_input
 
 -- a row does what one of the choices says, and goes on to the state of the table that it names
 abbrev pub Follows : List TableState → List Choice → Row → Type 0

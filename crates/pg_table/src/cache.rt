@@ -1,3 +1,4 @@
+use crate::table::{ControllerRow, ControllerState, ControllerTable};
 use pg_perm::{Event, Sequence};
 
 /// A state of the cache controller. States and messages have their numbers in the protocol.
@@ -95,16 +96,11 @@ pub enum Act {
     Stall,
 }
 
-pub type Inputs = Sequence<Input>;
-
 pub type Acts = Sequence<Act>;
 
-/// What the controller does in a state at each of some inputs, and the number of the state that it goes to.
-#[derive(Debug, Drop, PartialEq, Eq)]
-pub struct Row {
-    pub inputs: Inputs,
-    pub acts: Acts,
-    pub next: u16,
-}
+pub type Row = ControllerRow<Input, Act>;
 
-pub type Rows = Sequence<Row>;
+pub type TableState = ControllerState<Desc, Input, Act>;
+
+/// The table of a cache controller.
+pub type Table = ControllerTable<Desc, Input, Act>;

@@ -14,11 +14,11 @@ ghost use Rattle.pg_table.specs.declared.cache.Phase.TheVariants.{Ad, A};
 ghost use Rattle.pg_table.specs.declared.cache.Tag.{Tag};
 ghost use Rattle.pg_table.specs.declared.cache.Input.{Input};
 ghost use Rattle.pg_table.specs.declared.cache.Input.TheVariants as at;
-ghost use Rattle.pg_table.specs.declared.table.TableState.{TableState};
 ghost use Rattle.pg_table.specs.Descriptors.{descs};
 ghost use Rattle.pg_table.specs.Choices.{Choice, choices};
 ghost use Rattle.pg_table.specs.DueInputs.{is_due_input};
 ghost use Rattle.pg_table.specs.Pick.{pick};
+ghost use Rattle.pg_table.specs.Tables.{TableState};
 ghost use Rattle.pg_table.specs.Sound.{is_among, states_of, IsSoundCache};
 
 #[tactic(auto, using(crate::proofs::DueInputs::due_chooses, crate::proofs::DueInputs::not_due_chooses_none))]

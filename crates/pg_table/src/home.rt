@@ -1,3 +1,4 @@
+use crate::table::{ControllerRow, ControllerState, ControllerTable};
 use pg_perm::{Left, ReqClass, Sequence, Who};
 
 /// A state of the directory controller.
@@ -45,16 +46,11 @@ pub enum DirAct {
     Stall,
 }
 
-pub type DirInputs = Sequence<DirInput>;
-
 pub type DirActs = Sequence<DirAct>;
 
-/// What the controller does in a state at each of some inputs, and the number of the state that it goes to.
-#[derive(Debug, Drop, PartialEq, Eq)]
-pub struct DirRow {
-    pub inputs: DirInputs,
-    pub acts: DirActs,
-    pub next: u16,
-}
+pub type DirRow = ControllerRow<DirInput, DirAct>;
 
-pub type DirRows = Sequence<DirRow>;
+pub type DirTableState = ControllerState<DirDesc, DirInput, DirAct>;
+
+/// The table of the directory controller.
+pub type DirTable = ControllerTable<DirDesc, DirInput, DirAct>;

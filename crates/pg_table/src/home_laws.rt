@@ -17,11 +17,9 @@ ghost use Rattle.pg_table.specs.declared.home.DirDesc.TheVariants as dir;
 ghost use Rattle.pg_table.specs.declared.home.DirInput.{DirInput};
 ghost use Rattle.pg_table.specs.declared.home.DirInput.TheVariants as met;
 ghost use Rattle.pg_table.specs.declared.home.DirAct.TheVariants as does;
-ghost use Rattle.pg_table.specs.declared.home.DirRow.{DirRow};
-ghost use Rattle.pg_table.specs.declared.dir_table.DirTableState.{DirTableState};
 ghost use Rattle.pg_table.specs.Home.{home_descs, home_inputs, HomeChoice, home_choice, HomeRow, HomeState, home_generated};
 ghost use Rattle.pg_table.specs.Stalls.{is_asked_busy, is_dir_stall};
-ghost use Rattle.pg_table.specs.Tables.{has_dir_input, find_dir_row, same_dir_desc, home_table};
+ghost use Rattle.pg_table.specs.Tables.{DirRow, DirTableState, has_dir_input, find_dir_row, same_dir_desc, home_table};
 
 /// Each row of the directory leads to one of its states.
 pub fn home_rows_lead_to_states()

@@ -17,14 +17,13 @@ ghost use Rattle.pg_table.specs.declared.cache.Tag.{Tag};
 ghost use Rattle.pg_table.specs.declared.cache.Input.{Input};
 ghost use Rattle.pg_table.specs.declared.cache.Input.TheVariants as at;
 ghost use Rattle.pg_table.specs.declared.cache.Act.TheVariants as act;
-ghost use Rattle.pg_table.specs.declared.cache.Row.{Row};
-ghost use Rattle.pg_table.specs.declared.table.TableState.{TableState};
+ghost use Rattle.pg_table.specs.Controllers.{row_for};
 ghost use Rattle.pg_table.specs.Descriptors.{descs};
 ghost use Rattle.pg_table.specs.Choices.{Choice, tag_by, choices};
-ghost use Rattle.pg_table.specs.Generated.{inputs, chosen, row_for, rows_of};
+ghost use Rattle.pg_table.specs.Generated.{inputs, chosen, rows_of};
 ghost use Rattle.pg_table.specs.Mixed.{mixed_table, IsMix};
 ghost use Rattle.pg_table.specs.Stalls.{is_later_at, is_stall};
-ghost use Rattle.pg_table.specs.Tables.{same_desc, number_of, same_input, find_row, table_row, cache_table, home_table};
+ghost use Rattle.pg_table.specs.Tables.{Row, TableState, same_desc, number_of, same_input, find_row, table_row, cache_table, home_table};
 ghost use Rattle.pg_table.specs.Sound.{is_among, rows_for, Follows, IsSoundCache, IsSound};
 
 /// Two states are the same just where they are equal, and a state that is among others stands at its number.

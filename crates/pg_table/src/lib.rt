@@ -4,7 +4,6 @@
 #![tactic(auto)]
 
 mod cache;
-mod dir_table;
 mod due_laws;
 mod home;
 mod home_laws;
@@ -16,10 +15,9 @@ mod tables;
 mod tests;
 mod worked;
 
-pub use cache::{Act, Acts, Desc, Input, Phase, Row, Tag};
-pub use dir_table::{DirTable, DirTableState};
+pub use cache::{Act, Acts, Desc, Input, Phase, Row, Table, TableState, Tag};
 pub use due_laws::{inputs_that_may_come, sound_tables_pick, stores_may_end};
-pub use home::{DirAct, DirActs, DirDesc, DirInput, DirRow};
+pub use home::{DirAct, DirActs, DirDesc, DirInput, DirRow, DirTable, DirTableState};
 pub use home_laws::{
     busy_states_have_rows, home_cases_have_rows, home_rows_lead_to_states, home_stalls_when_busy,
     home_table_answers,
@@ -29,7 +27,7 @@ pub use laws::{
     mixed_tables_are_sound, rows_are_for_one_input, rows_lead_to_states, sound_tables_answer,
     states_are_told_apart, states_have_numbers, states_of_both_modes,
 };
-pub use table::{Table, TableState};
+pub use table::{ControllerRow, ControllerState, ControllerTable};
 pub use table_laws::{
     deferring_tables_never_stall, home_tables_have_one_row, home_tables_stall_when_busy,
     stalling_tables_stall_later_forwards, tags_tell_the_state,

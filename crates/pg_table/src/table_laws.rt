@@ -15,17 +15,13 @@ ghost use Rattle.pg_table.specs.declared.cache.Tag.{Tag};
 ghost use Rattle.pg_table.specs.declared.cache.Tag.TheVariants.{Plain, Kept, Gave, Gone};
 ghost use Rattle.pg_table.specs.declared.cache.Input.{Input};
 ghost use Rattle.pg_table.specs.declared.cache.Act.TheVariants as act;
-ghost use Rattle.pg_table.specs.declared.cache.Row.{Row};
-ghost use Rattle.pg_table.specs.declared.table.TableState.{TableState};
 ghost use Rattle.pg_table.specs.declared.home.DirInput.{DirInput};
 ghost use Rattle.pg_table.specs.declared.home.DirAct.TheVariants as does;
-ghost use Rattle.pg_table.specs.declared.home.DirRow.{DirRow};
-ghost use Rattle.pg_table.specs.declared.dir_table.DirTableState.{DirTableState};
 ghost use Rattle.pg_table.specs.Descriptors.{after, finals};
 ghost use Rattle.pg_table.specs.Choices.{is_later, tag_by};
 ghost use Rattle.pg_table.specs.Home.{home_descs, HomeChoice, home_choice};
 ghost use Rattle.pg_table.specs.Stalls.{is_later_at, is_stall, is_asked_busy, is_dir_stall};
-ghost use Rattle.pg_table.specs.Tables.{has_dir_input, cache_table, home_row, home_table};
+ghost use Rattle.pg_table.specs.Tables.{Row, TableState, DirRow, DirTableState, has_dir_input, cache_table, home_row, home_table};
 ghost use Rattle.pg_table.specs.Sound.{rows_for};
 
 /// The tag of an operation tells the state in which it ends: a forward that is due there has its row, and its own tag tells the state that the row leads

@@ -2,11 +2,11 @@
 ghost use Rattle.std.specs.Prelude.{◌≡◌, IfOk};
 ghost use Rattle.pg_table.specs.Sound.{IsSound};
 
-use crate::dir_table::DirTable;
-use crate::table::Table;
+use crate::cache::Table;
+use crate::home::DirTable;
 use pg_perm::Mode;
 use pg_shape::Protocol;
-use std::alloc::{AllocError, Global};
+use std::alloc::AllocError;
 use std::marker::Model;
 
 /// The tables of the cache controllers and of the directory controller of a protocol, with a copy of the protocol. They are sound: docs/TABLES.md
@@ -33,7 +33,6 @@ impl Model for Tables {
 impl Tables {
     /// Puts two sound tables together. The mode is what they are called by.
     pub fn make(
-        alloc: Global,
         protocol: &Protocol,
         mode: Mode,
         cache: Table,
@@ -43,7 +42,7 @@ impl Tables {
         ensures { IfOk result (λ tables. tables ≡ record { protocol = protocol.now; mode = mode; cache = cache; home = home }) }
     {
         Ok(Tables {
-            protocol: protocol.copy(alloc)?,
+            protocol: protocol.copy()?,
             mode,
             cache,
             home,

@@ -20,7 +20,8 @@ ghost use Rattle.pg_table.specs.Home.{home_generated};
 ghost use Rattle.pg_table.specs.Mixed.{mixed, mixed_table};
 ghost use Rattle.pg_table.specs.Sound.{IsSound};
 ghost use Rattle.pg_table.specs.Tables.{home_table};
-ghost use Rattle.pg_table.specs.Worked.{mi, msi, mesi, mosi, moesi, acks_at_loads, msi_mix};
+ghost use Rattle.pg_samples.specs.Drafts.{mi, msi, mesi, mosi, moesi};
+ghost use Rattle.pg_table.specs.Worked.{acks_at_loads, msi_mix};
 
 /// The states of cache controllers, as a person counts them: of MSI, MESI and MOSI.
 pub fn worked_states()

@@ -2,6 +2,9 @@
 use Rattle.std.specs.Prelude.{ℕ, Bool, true, false, ◌==◌, ◌&&◌, ◌||◌, List, [], ◌∷◌, slice_get, Option, Some, None}
 use Rattle.std.specs.List.{list_any}
 use Rattle.std.specs.Option.{option_map_or}
+use denote.Enum.Bare.{sameb}
+use Rattle.pg_perm.specs.contracts.kinds.DirKind.{the_type as kind_type}
+use Rattle.pg_perm.specs.contracts.draft.ReplyNamePartialEq.TheImpl.{ghosts as of_reply}
 use Rattle.pg_perm.specs.declared.kinds.DirKind.{DirKind}
 use Rattle.pg_perm.specs.declared.kinds.DirKind.TheVariants as kind
 use Rattle.pg_perm.specs.declared.kinds.Who.{Who}
@@ -18,17 +21,13 @@ use Rattle.pg_perm.specs.declared.draft.RowForm.TheVariants as form
 use Rattle.pg_perm.specs.declared.draft.Action.{Action}
 use Rattle.pg_perm.specs.declared.draft.Action.TheVariants as action
 use Rattle.pg_perm.specs.declared.draft.ReplyName.{ReplyName}
-use Rattle.pg_perm.specs.declared.draft.ReplyName.TheVariants as reply
 use Rattle.pg_terms.specs.declared.cases.DirCase.{DirCase}
 use Rattle.pg_terms.specs.declared.cases.DirCase.TheVariants as case
-use Rattle.pg_terms.specs.Terms.{is_owner, same_who, same_left, same_request, is, is_read_owner, cache_is, shared, request_of, forward_of, has_class, lists}
+use Rattle.pg_terms.specs.contracts.cases.DirCasePartialEq.TheImpl.{ghosts as of_case}
+use Rattle.pg_terms.specs.Terms.{is_owner, same_who, is, is_read_owner, cache_is, shared, request_of, forward_of, has_class, lists}
 
 abbrev pub same_kind : DirKind → DirKind → Bool
-same_kind kind.Idle kind.Idle = true
-same_kind kind.Shared kind.Shared = true
-same_kind kind.Owned kind.Owned = true
-same_kind kind.Mixed kind.Mixed = true
-same_kind _ _ = false
+same_kind = sameb kind_type
 
 -- there is a directory state of this number, and it is of the kind
 abbrev pub kind_is : DirKind → Draft → ℕ → Bool
@@ -78,9 +77,7 @@ abbrev pub cases_at : Draft → ℕ → List DirCase
 cases_at d n = option_map_or (λ l. due_cases l.kind (lists_read_owner d l.beside)) (slice_get d.dirs n) []
 
 abbrev pub same_case : DirCase → DirCase → Bool
-same_case (case.Ask c w) (case.Ask e x) = same_request c e && same_who w x
-same_case (case.Evict w l) (case.Evict x m) = same_who w x && same_left l m
-same_case _ _ = false
+same_case = of_case.eq
 
 abbrev pub is_due_case : Draft → ℕ → DirCase → Bool
 is_due_case d n at = list_any (same_case at) (cases_at d n)
@@ -88,9 +85,7 @@ is_due_case d n at = list_any (same_case at) (cases_at d n)
 -- Replies
 
 abbrev pub same_reply : ReplyName → ReplyName → Bool
-same_reply reply.AckCount reply.AckCount = true
-same_reply (reply.Reply m) (reply.Reply n) = m == n
-same_reply _ _ = false
+same_reply = of_reply.eq
 
 -- the row line is for the first request of a class
 abbrev pub is_row_for : Draft → ReqClass → RowForm → Bool

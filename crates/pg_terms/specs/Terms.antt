@@ -3,20 +3,22 @@
 use Rattle.std.specs.Prelude.{ℕ, Bool, true, false, not, ◌==◌, ◌&&◌, List, [], slice_get, Option, Some, None, position, find}
 use Rattle.std.specs.List.{list_any}
 use Rattle.std.specs.Option.{option_map, option_map_or, option_and_then}
+use denote.Enum.Bare.{sameb}
 use Rattle.pg_perm.specs.declared.kinds.Role.{Role}
 use Rattle.pg_perm.specs.declared.kinds.Role.TheVariants as role
 use Rattle.pg_perm.specs.declared.kinds.Perm.{Perm}
 use Rattle.pg_perm.specs.declared.kinds.Perm.TheVariants as perm
 use Rattle.pg_perm.specs.declared.kinds.Event.{Event}
-use Rattle.pg_perm.specs.declared.kinds.Event.TheVariants.{Load, Store, Evict}
 use Rattle.pg_perm.specs.declared.kinds.Who.{Who}
-use Rattle.pg_perm.specs.declared.kinds.Who.TheVariants.{Other, Sharer, Owner}
 use Rattle.pg_perm.specs.declared.kinds.Left.{Left}
-use Rattle.pg_perm.specs.declared.kinds.Left.TheVariants.{Last, More}
 use Rattle.pg_perm.specs.declared.kinds.ReqClass.{ReqClass}
-use Rattle.pg_perm.specs.declared.kinds.ReqClass.TheVariants.{Read, Write, Clean, Dirty}
 use Rattle.pg_perm.specs.declared.kinds.FwdClass.{FwdClass}
-use Rattle.pg_perm.specs.declared.kinds.FwdClass.TheVariants.{Inv, Share, Keep, Drop}
+use Rattle.pg_perm.specs.declared.kinds.FwdClass.TheVariants.{Keep}
+use Rattle.pg_perm.specs.contracts.kinds.Event.{the_type as event_type}
+use Rattle.pg_perm.specs.contracts.kinds.Who.{the_type as who_type}
+use Rattle.pg_perm.specs.contracts.kinds.Left.{the_type as left_type}
+use Rattle.pg_perm.specs.contracts.kinds.ReqClass.{the_type as request_type}
+use Rattle.pg_perm.specs.contracts.kinds.FwdClass.{the_type as forward_type}
 use Rattle.pg_perm.specs.declared.draft.MsgClass.{MsgClass}
 use Rattle.pg_perm.specs.declared.draft.MsgClass.TheVariants.{Request, Forward, Reply}
 use Rattle.pg_perm.specs.declared.draft.Draft.{Draft}
@@ -29,7 +31,7 @@ use Rattle.pg_perm.specs.declared.draft.RowForm.TheVariants as form
 use Rattle.pg_terms.specs.declared.cases.DirCase.{DirCase}
 use Rattle.pg_terms.specs.declared.cases.DirCase.TheVariants as case
 
--- Roles, permissions, kinds and classes
+-- Roles and permissions
 
 abbrev pub is_out : Role → Bool
 is_out role.Out = true
@@ -61,36 +63,24 @@ is_write_perm perm.None = false
 is_write_perm perm.Read = false
 is_write_perm perm.Write = true
 
+-- Sameness of kinds: the `==` of the code
+
 abbrev pub same_event : Event → Event → Bool
-same_event Load Load = true
-same_event Store Store = true
-same_event Evict Evict = true
-same_event _ _ = false
+same_event = sameb event_type
 
 abbrev pub same_who : Who → Who → Bool
-same_who Other Other = true
-same_who Sharer Sharer = true
-same_who Owner Owner = true
-same_who _ _ = false
+same_who = sameb who_type
 
 abbrev pub same_left : Left → Left → Bool
-same_left Last Last = true
-same_left More More = true
-same_left _ _ = false
+same_left = sameb left_type
 
 abbrev pub same_request : ReqClass → ReqClass → Bool
-same_request Read Read = true
-same_request Write Write = true
-same_request Clean Clean = true
-same_request Dirty Dirty = true
-same_request _ _ = false
+same_request = sameb request_type
 
 abbrev pub same_forward : FwdClass → FwdClass → Bool
-same_forward Inv Inv = true
-same_forward Share Share = true
-same_forward Keep Keep = true
-same_forward Drop Drop = true
-same_forward _ _ = false
+same_forward = sameb forward_type
+
+-- Classes of messages
 
 -- a request of a class
 abbrev pub is_request_of : ReqClass → MsgClass → Bool

@@ -50,26 +50,29 @@ const MIXED: &[DirCase] = &[
 ];
 
 /// There is a directory state of this number, and it is of the kind.
-pub fn kind_is(kind: DirKind, draft: &Draft, dir: usize) -> bool
+pub fn kind_is(kind: DirKind, draft: &Draft, dir: u8) -> bool
     ensures { result ≡ due.kind_is kind draft.now dir }
 {
-    draft.dirs.get(dir).is_some_and(|line| line.kind == kind)
+    draft
+        .dirs
+        .get(usize::from(dir))
+        .is_some_and(|line| line.kind == kind)
 }
 
 /// The forward with which a row line of this form passes a request on.
-pub fn forward_in(form: RowForm) -> Option<usize>
+pub fn forward_in(form: RowForm) -> Option<u8>
     ensures { result ≡ due.forward_in form }
 {
     match form {
         RowForm::Ask {
             action: Action::Forward(forward),
             ..
-        } => Some(usize::from(forward)),
+        } => Some(forward),
         _ => None,
     }
 }
 
-pub fn is_to_owner(draft: &Draft, forward: usize) -> bool
+pub fn is_to_owner(draft: &Draft, forward: u8) -> bool
     ensures { result ≡ due.is_to_owner draft.now forward }
 {
     has_class(FwdClass::Share, draft, forward)
@@ -77,13 +80,13 @@ pub fn is_to_owner(draft: &Draft, forward: usize) -> bool
         || has_class(FwdClass::Drop, draft, forward)
 }
 
-fn is_passed_to(draft: &Draft, state: usize, forward: usize, row: &RowLine) -> bool
+fn is_passed_to(draft: &Draft, state: u8, forward: u8, row: &RowLine) -> bool
     ensures { result ≡ due.is_passed_to draft.now state forward row.now }
 {
-    is(forward_in(row.form), forward) && lists(draft, usize::from(row.dir), state)
+    forward_in(row.form) == Some(forward) && lists(draft, row.dir, state)
 }
 
-fn passes_to(draft: &Draft, state: usize, forward: usize) -> bool
+fn passes_to(draft: &Draft, state: u8, forward: u8) -> bool
     ensures { result ≡ list_any (due.is_passed_to draft.now state forward) draft.now.rows }
 {
     draft
@@ -94,7 +97,7 @@ fn passes_to(draft: &Draft, state: usize, forward: usize) -> bool
 }
 
 /// Whether a cache in this state may get this forward.
-pub fn is_due(draft: &Draft, state: usize, forward: usize) -> bool
+pub fn is_due(draft: &Draft, state: u8, forward: u8) -> bool
     ensures { result ≡ due.is_due draft.now state forward }
 {
     (is(shared(draft), state) && is(forward_of(draft, FwdClass::Inv), forward))
@@ -108,7 +111,7 @@ fn lists_read_owner(draft: &Draft, states: &[u8]) -> bool
 {
     states
         .iter()
-        .any(|state| is_read_owner_state(draft, usize::from(*state)))
+        .any(|state| is_read_owner_state(draft, *state))
 }
 
 fn due_cases(kind: DirKind, reads: bool) -> &'static [DirCase]
@@ -124,29 +127,23 @@ fn due_cases(kind: DirKind, reads: bool) -> &'static [DirCase]
 }
 
 /// The cases that are due at a directory state.
-pub fn cases_at(draft: &Draft, dir: usize) -> &'static [DirCase]
+pub fn cases_at(draft: &Draft, dir: u8) -> &'static [DirCase]
     ensures { result.now ≡ due.cases_at draft.now dir }
 {
-    match draft.dirs.get(dir) {
+    match draft.dirs.get(usize::from(dir)) {
         Some(line) => due_cases(line.kind, lists_read_owner(draft, line.beside.as_slice())),
         None => &[],
     }
 }
 
-fn same_case(a: DirCase, b: DirCase) -> bool
-    ensures { result ≡ due.same_case a b }
-{
-    a == b
-}
-
-pub fn is_due_case(draft: &Draft, dir: usize, at: DirCase) -> bool
+pub fn is_due_case(draft: &Draft, dir: u8, at: DirCase) -> bool
     ensures { result ≡ due.is_due_case draft.now dir at }
 {
-    cases_at(draft, dir).iter().any(|due| same_case(at, *due))
+    cases_at(draft, dir).iter().any(|due| at == *due)
 }
 
 /// Whether a row line of this form is for a case that is due.
-pub fn is_form_due(draft: &Draft, dir: usize, form: RowForm) -> bool
+pub fn is_form_due(draft: &Draft, dir: u8, form: RowForm) -> bool
     ensures { result ≡ list_any (term.is_case draft.now form) (due.cases_at draft.now dir) }
 {
     cases_at(draft, dir)
@@ -158,7 +155,7 @@ fn is_row_for(draft: &Draft, class: ReqClass, form: RowForm) -> bool
     ensures { result ≡ due.is_row_for draft.now class form }
 {
     match form {
-        RowForm::Ask { request, .. } => is(request_of(draft, class), usize::from(request)),
+        RowForm::Ask { request, .. } => is(request_of(draft, class), request),
         RowForm::Evict { .. } => false,
     }
 }
@@ -168,29 +165,26 @@ fn is_row_from(draft: &Draft, class: ReqClass, sender: Who, form: RowForm) -> bo
 {
     match form {
         RowForm::Ask { request, who, .. } => {
-            is(request_of(draft, class), usize::from(request)) && sender == who
+            is(request_of(draft, class), request) && sender == who
         }
         RowForm::Evict { .. } => false,
     }
 }
 
 /// Whether a take line answers the reply.
-pub fn is_reply(take: &TakeLine, reply: usize) -> bool
+pub fn is_reply(take: &TakeLine, reply: u8) -> bool
     ensures { result ≡ term.is take.now.reply reply }
 {
-    take.reply
-        .is_some_and(|number| usize::from(number) == reply)
+    take.reply == Some(reply)
 }
 
-fn is_answer(draft: &Draft, dir: usize, forward: usize, reply: usize, take: &TakeLine) -> bool
+fn is_answer(draft: &Draft, dir: u8, forward: u8, reply: u8, take: &TakeLine) -> bool
     ensures { result ≡ due.is_answer draft.now dir forward reply take.now }
 {
-    usize::from(take.forward) == forward
-        && is_reply(take, reply)
-        && lists(draft, dir, usize::from(take.state))
+    take.forward == forward && is_reply(take, reply) && lists(draft, dir, take.state)
 }
 
-fn is_answered(draft: &Draft, dir: usize, forward: usize, reply: usize) -> bool
+fn is_answered(draft: &Draft, dir: u8, forward: u8, reply: u8) -> bool
     ensures { result ≡ list_any (due.is_answer draft.now dir forward reply) draft.now.takes }
 {
     draft
@@ -200,35 +194,34 @@ fn is_answered(draft: &Draft, dir: usize, forward: usize, reply: usize) -> bool
         .any(|take| is_answer(draft, dir, forward, reply, take))
 }
 
-fn brings(draft: &Draft, dir: usize, form: RowForm, reply: usize) -> bool
+fn brings(draft: &Draft, dir: u8, form: RowForm, reply: u8) -> bool
     ensures { result ≡ due.row_brings draft.now dir form reply }
 {
     let RowForm::Ask { action, .. } = form else {
         return false;
     };
     match action {
-        Action::Reply(sent) => usize::from(sent) == reply,
-        Action::Forward(forward) => is_answered(draft, dir, usize::from(forward), reply),
+        Action::Reply(sent) => sent == reply,
+        Action::Forward(forward) => is_answered(draft, dir, forward, reply),
         Action::Count => false,
     }
 }
 
 /// Whether a load may get this reply.
-pub fn is_load_reply(draft: &Draft, reply: usize) -> bool
+pub fn is_load_reply(draft: &Draft, reply: u8) -> bool
     ensures { result ≡ due.is_load_reply draft.now reply }
 {
     draft.rows.as_slice().iter().any(|row| {
-        is_row_for(draft, ReqClass::Read, row.form)
-            && brings(draft, usize::from(row.dir), row.form, reply)
+        is_row_for(draft, ReqClass::Read, row.form) && brings(draft, row.dir, row.form, reply)
     })
 }
 
 /// Whether a store may get this reply whose sender is so.
-pub fn is_store_reply(draft: &Draft, sender: Who, reply: usize) -> bool
+pub fn is_store_reply(draft: &Draft, sender: Who, reply: u8) -> bool
     ensures { result ≡ due.is_store_reply draft.now sender reply }
 {
     draft.rows.as_slice().iter().any(|row| {
         is_row_from(draft, ReqClass::Write, sender, row.form)
-            && brings(draft, usize::from(row.dir), row.form, reply)
+            && brings(draft, row.dir, row.form, reply)
     })
 }

@@ -2,7 +2,8 @@
 //! what is due: the forwards that may come to a cache state, the cases that may come to a directory state, and the replies that may come of
 //! a request; and what the line of a row says.
 //!
-//! States and messages are numbers, as in a draft. docs/TEXT.md has the terms in words.
+//! States and messages are numbers, as in a draft. The first of a role or a class is found by its place,
+//! which is its number. docs/TEXT.md has the terms in words.
 #![tactic(auto)]
 
 mod cases;
@@ -16,8 +17,7 @@ pub use due::{
     is_store_reply, is_to_owner, kind_is,
 };
 pub use rows::{
-    action_in, allows, final_state, final_under, is_allowed, is_by_share, may_keep, reply_to,
-    store_next,
+    action_in, allows, final_state, final_under, is_allowed, is_by_share, reply_to, store_next,
 };
 pub use terms::{
     core_row, dir_row, forward_of, has_class, is, is_case, is_clean_state, is_forward_of, is_other,

@@ -3,8 +3,8 @@ ghost use Rattle.std.specs.Option.{option_copied};
 ghost use Rattle.pg_terms.specs.Rows as says;
 ghost use Rattle.pg_terms.specs.Terms as term;
 
-use crate::due::{forward_in, is_due};
-use crate::terms::{core_row, forward_of, has_class, take_row};
+use crate::due::forward_in;
+use crate::terms::{core_row, has_class, take_row};
 use pg_perm::{
     Action, CacheLine, CoreForm, Draft, Event, FwdClass, Pair, Perm, ReplyName, RowForm, RowLine,
 };
@@ -21,12 +21,12 @@ pub fn allows(event: Event, cache: &CacheLine) -> bool
 }
 
 /// There is a cache state of this number, and its permission allows the event.
-pub fn is_allowed(draft: &Draft, event: Event, state: usize) -> bool
+pub fn is_allowed(draft: &Draft, event: Event, state: u8) -> bool
     ensures { result ≡ term.cache_is (says.allows event) draft.now state }
 {
     draft
         .caches
-        .get(state)
+        .get(usize::from(state))
         .is_some_and(|cache| allows(event, cache))
 }
 
@@ -47,7 +47,7 @@ pub fn final_under(name: ReplyName, form: &CoreForm) -> Option<u8>
 }
 
 /// The state in which a core ends that asked in this state and gets this reply.
-pub fn final_state(draft: &Draft, state: usize, event: Event, name: ReplyName) -> Option<u8>
+pub fn final_state(draft: &Draft, state: u8, event: Event, name: ReplyName) -> Option<u8>
     ensures { result ≡ says.final draft.now state event name }
 {
     let line = core_row(draft, state, event)?;
@@ -66,20 +66,10 @@ pub fn store_next(state: u8, event: Event, form: &CoreForm) -> Option<u8>
 }
 
 /// What an owner in this state answers to a forward.
-pub fn reply_to(draft: &Draft, state: usize, forward: usize) -> Option<u8>
+pub fn reply_to(draft: &Draft, state: u8, forward: u8) -> Option<u8>
     ensures { result ≡ says.reply_to draft.now state forward }
 {
     take_row(draft, state, forward)?.reply
-}
-
-/// Whether a cache in this state may get the keep forward.
-pub fn may_keep(draft: &Draft, state: usize) -> bool
-    ensures { result ≡ says.may_keep draft.now state }
-{
-    match forward_of(draft, FwdClass::Keep) {
-        Some(keep) => is_due(draft, state, keep),
-        None => false,
-    }
 }
 
 /// What the directory does with a request whose row has this form.

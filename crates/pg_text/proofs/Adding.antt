@@ -28,7 +28,7 @@ use Rattle.pg_forms.specs.declared.line.Line.TheVariants as line
 use Rattle.pg_forms.specs.Forms.{spelling, shape_words}
 use Rattle.pg_forms.specs.Pairs.{words_in}
 use Rattle.pg_forms.specs.Kinds.{kind_of, is_protocol, is_end}
-use Rattle.pg_text.specs.Numbering.{put_dir, put_core, put_take, put_row}
+use Rattle.pg_drafting.specs.Numbering.{put_dir, put_core, put_take, put_row}
 use Rattle.pg_text.specs.Printing.{numbered, pair_words, core_shape, cache_line_of, dir_line_of, message_line_of, core_line_of, take_line_of, row_line_of}
 use Rattle.pg_text.proofs.Parts.{Known}
 use Rattle.pg_text.proofs.NumbersAgain.{KnowsCaches, KnowsDirs, KnowsMessages, core_again, states_again, take_again, row_again}

@@ -35,8 +35,8 @@ use Rattle.pg_forms.specs.declared.line.CoreShape.TheVariants.{Hit, Ask, Leave}
 use Rattle.pg_forms.specs.declared.line.RowShape.{RowShape}
 use Rattle.pg_forms.specs.declared.line.RowShape.TheVariants as row
 use Rattle.pg_forms.specs.Forms.{IsShapeOf, IsRowShape}
-use Rattle.pg_text.specs.Numbering.{cache_number, dir_number, message_number, reply_name, pair_of, pairs_of, core_form, core_of, states_of}
-use Rattle.pg_text.specs.Numbering.{take_reply, take_of, action_by_class, action_of, row_form, row_of}
+use Rattle.pg_drafting.specs.Numbering.{cache_number, dir_number, message_number, reply_name, pair_of, pairs_of, core_form, core_of, states_of}
+use Rattle.pg_drafting.specs.Numbering.{take_reply, take_of, action_by_class, action_of, row_form, row_of}
 use Rattle.pg_forms.proofs.Options.{then_some, told, mapped}
 
 -- a number of a cache state is that of one which is declared

@@ -5,14 +5,18 @@ use Rattle.pg_perm.specs.declared.draft.Draft.{Draft}
 use Rattle.pg_perm.specs.declared.fault.Rule.{Rule}
 use Rattle.pg_perm.specs.declared.fault.Rule.TheVariants.{F1, F2, F3, F4, F5}
 use Rattle.pg_perm.specs.Rules.{rule_rank}
+use Rattle.pg_perm.specs.declared.fault.Fault.{Fault}
+use Rattle.pg_faults.specs.FirstFaults.{IsFirst, IsClean}
+use Rattle.pg_faults.specs.LineRules as faults
+use Rattle.pg_faults.specs.LineRules.{IsExact}
 use Rattle.pg_forms.specs.declared.line.Kind.{Kind}
 use Rattle.pg_forms.specs.declared.line.Line.{Line}
 use Rattle.pg_lines.specs.Lines.{words_of}
 use Rattle.pg_forms.specs.Kinds.{kind_of}
 use Rattle.pg_forms.specs.Reading.{line_of}
-use Rattle.pg_text.specs.Numbering.{with_line, is_taken, is_full}
-use Rattle.pg_text.specs.FormFaults.{Above, is_out_of_order, breaks, below, after}
-use Rattle.pg_text.specs.Texts.{judged, judge}
+use Rattle.pg_drafting.specs.Numbering.{with_line, is_taken, is_full}
+use Rattle.pg_text.specs.FormFaults.{Above, is_out_of_order, breaks, below, after, form_rules}
+use Rattle.pg_text.specs.Texts.{judged, judge, drafted_at}
 use Rattle.pg_forms.proofs.Options.{same_err, same_ok}
 
 -- what is judged of a line of this kind, from the answers to F2 to F5
@@ -33,38 +37,30 @@ broken order taken more over F5 = over
 broken order taken more over _ = false
 
 -- no rule before F2 is among the broken ones
-from_F2 : (order taken over : Bool) (more : Option Draft) (Q : Rule) → broken order taken more over Q ≡ true → 2 ≤ rule_rank Q
+from_F2 : (order taken over : Bool) (more : Option Draft) (Q : Rule) → broken order taken more over Q ≡ true → rule_rank F2 ≤ rule_rank Q
 from_F2 order taken over more F1 h = absurd cc
 from_F2 order taken over more _ h = omega arith
 
 -- where the order is right, no rule before F3 is among the broken ones
-from_F3 : (taken over : Bool) (more : Option Draft) (Q : Rule) → broken false taken more over Q ≡ true → 3 ≤ rule_rank Q
+from_F3 : (taken over : Bool) (more : Option Draft) (Q : Rule) → broken false taken more over Q ≡ true → rule_rank F3 ≤ rule_rank Q
 from_F3 taken over more F1 h = absurd cc
 from_F3 taken over more F2 h = absurd cc
 from_F3 taken over more _ h = omega arith
 
 -- where also no name is taken, no rule before F4 is among them
-from_F4 : (over : Bool) (more : Option Draft) (Q : Rule) → broken false false more over Q ≡ true → 4 ≤ rule_rank Q
+from_F4 : (over : Bool) (more : Option Draft) (Q : Rule) → broken false false more over Q ≡ true → rule_rank F4 ≤ rule_rank Q
 from_F4 over more F1 h = absurd cc
 from_F4 over more F2 h = absurd cc
 from_F4 over more F3 h = absurd cc
 from_F4 over more _ h = omega arith
 
 -- where also each name is declared, no rule before F5 is among them
-from_F5 : (over : Bool) (d : Draft) (Q : Rule) → broken false false (Some d) over Q ≡ true → 5 ≤ rule_rank Q
+from_F5 : (over : Bool) (d : Draft) (Q : Rule) → broken false false (Some d) over Q ≡ true → rule_rank F5 ≤ rule_rank Q
 from_F5 over d F1 h = absurd cc
 from_F5 over d F2 h = absurd cc
 from_F5 over d F3 h = absurd cc
 from_F5 over d F4 h = absurd cc
 from_F5 over d _ h = omega arith
-
--- R is broken, and each rule that is broken is R or comes behind it
-abbrev pub IsFirst : (Rule → Bool) → Rule → Type 0
-IsFirst test R = (test R ≡ true) × ((Q : Rule) → test Q ≡ true → rule_rank R ≤ rule_rank Q)
-
--- no rule is broken
-abbrev pub IsClean : (Rule → Bool) → Type 0
-IsClean test = (Q : Rule) → test Q ≡ false
 
 -- the rule that is given is the first broken one
 outcome_first : (k : Kind) (order taken : Bool) (more : Option Draft) (over : Bool) (R : Rule)
@@ -131,7 +127,7 @@ breaks_is above n ws (Some l) e F5 = rw e refl
 breaks_is above n ws (Some l) e _ = refl
 
 -- no rule comes before F1
-from_F1 : (Q : Rule) → 1 ≤ rule_rank Q
+from_F1 : (Q : Rule) → rule_rank F1 ≤ rule_rank Q
 from_F1 F1 = omega arith
 from_F1 _ = omega arith
 
@@ -162,3 +158,11 @@ pub judge_sound : (above : Above) (n : ℕ) (line : List ℕ) (more : Above) →
 judge_sound above n line more e =
     let p = judged_sound above n _ _ more e in
     (p.0, λ Q. breaks_is above n (words_of line) _ refl Q ∙ p.1 Q)
+
+-- judging a line is exact
+pub judge_exact : IsExact form_rules judge
+judge_exact = record { first = judge_first; clean = judge_sound }
+
+-- what reading gives once line n was judged
+abbrev pub read_on : ℕ → Bool → Result Above Rule → List (List ℕ) → (Above → Result (Draft × ℕ) Fault) → Result (Draft × ℕ) Fault
+read_on n is_last j lines go_on = faults.read_on None drafted_at n is_last j lines go_on

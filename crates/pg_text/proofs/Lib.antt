@@ -1,9 +1,7 @@
 pub mod Joining
-pub mod Numbers
 pub mod Judging
 pub mod Faults
 pub mod Progress
-pub mod Unique
 pub mod Growing
 pub mod WellFormed
 pub mod Declared

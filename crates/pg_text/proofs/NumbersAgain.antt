@@ -30,7 +30,7 @@ use Rattle.pg_perm.specs.declared.draft.Action.TheVariants as action
 use Rattle.pg_perm.specs.Classes.{is_request, is_forward, is_reply}
 use Rattle.pg_perm.specs.Drafts.{cache_names, dir_names, message_names, taken_names, are_distinct, has_cache, has_dir, has_message, has_reply_name, has_pair, has_core_form, has_core, has_take, has_action, has_row_form, has_row}
 use Rattle.pg_perm.specs.Words.{name_of, cache_name, dir_name, message_name}
-use Rattle.pg_text.specs.Numbering.{cache_number, dir_number, message_number, reply_name, pair_of, pairs_of, core_form, core_of, states_of, take_reply, take_of, action_by_class, action_of, row_form, row_of}
+use Rattle.pg_drafting.specs.Numbering.{cache_number, dir_number, message_number, reply_name, pair_of, pairs_of, core_form, core_of, states_of, take_reply, take_of, action_by_class, action_of, row_form, row_of}
 use Rattle.pg_text.specs.Printing.{reply_word, pair_words, core_shape, action_word, row_shape_of}
 use Rattle.pg_text.proofs.Parts.{are_free}
 

@@ -19,7 +19,8 @@ use Rattle.pg_forms.specs.declared.line.Kind.{Kind}
 use Rattle.pg_forms.specs.declared.line.Kind.TheVariants as kind
 use Rattle.pg_forms.specs.declared.line.Line.{Line}
 use Rattle.pg_forms.specs.declared.line.Line.TheVariants.{Protocol, End}
-use Rattle.pg_text.specs.FormFaults.{nothing, no_draft}
+use Rattle.pg_drafting.specs.Numbering.{no_draft}
+use Rattle.pg_text.specs.FormFaults.{nothing}
 use Rattle.pg_forms.specs.Forms.{spelling}
 use Rattle.pg_forms.specs.Kinds.{rank_of}
 use Rattle.pg_text.specs.Printing.{numbered, cache_line_of, dir_line_of, message_line_of, core_line_of, take_line_of, row_line_of, lines_in, printed, renumbered}

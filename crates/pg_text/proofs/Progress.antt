@@ -6,14 +6,17 @@ use Rattle.pg_perm.specs.declared.draft.Draft.{Draft}
 use Rattle.pg_perm.specs.declared.fault.Rule.{Rule}
 use Rattle.pg_perm.specs.declared.fault.Rule.TheVariants.{F2}
 use Rattle.pg_forms.specs.declared.line.Line.{Line}
-use Rattle.pg_text.specs.declared.error.LineError.{LineError}
-use Rattle.pg_text.specs.declared.error.LineError.TheVariants as error
-use Rattle.pg_text.specs.Answers.{Judges, Gives, text_error}
+use Rattle.pg_drafting.specs.Numbering.{declared}
+use Rattle.pg_faults.specs.declared.error.LineError.{LineError}
+use Rattle.pg_faults.specs.declared.error.LineError.TheVariants as error
+use Rattle.pg_faults.specs.Answers.{Judges}
+use Rattle.pg_text.specs.Answers.{Gives, text_error}
 use Rattle.pg_forms.specs.Kinds.{is_end, kind_of}
 use Rattle.pg_forms.specs.Reading.{line_of}
 use Rattle.pg_lines.specs.Lines.{words_of, lines_of, first_line, behind}
 use Rattle.pg_text.specs.FormFaults.{Above, nothing, ends, is_out_of_order}
-use Rattle.pg_text.specs.Texts.{judge, judged, declared, with_kind, if_short, placed, read_lines, read_on, has_ended_by, reading}
+use Rattle.pg_text.specs.Texts.{judge, judged, with_kind, if_short, placed, read_lines, has_ended_by, reading}
+use Rattle.pg_text.proofs.Judging.{read_on}
 use Rattle.pg_lines.proofs.Steps.{lines_of-first, length-rest, behind-more}
 use Rattle.pg_forms.proofs.Options.{same_ok}
 
@@ -38,16 +41,16 @@ ended-ends above n is_long (Some l) more h = at (is_out_of_order n above.kind (k
 
 -- what reading gives, by the next line
 by_line : (bytes rest line more : List ℕ) (before : ℕ) (above : Above) → IsReadSoFar bytes rest before above → Some (line, more) ≡ first_line rest
-    → read_lines nothing 1 (lines_of bytes) ≡ read_on (before + 1) (ends line) (judge above (before + 1) line) (λ next. read_lines next (before + 1 + 1) (lines_of more))
+    → read_lines nothing 1 (lines_of bytes) ≡ read_on (before + 1) (ends line) (judge above (before + 1) line) (lines_of more) (λ next. read_lines next (before + 1 + 1) (lines_of more))
 by_line bytes rest line more before above so_far h = so_far.answers ∙ ap (read_lines above (before + 1)) (lines_of-first rest line more h)
 
 -- a line that can't be taken in
-pub error_at : (bytes rest line more : List ℕ) (before : ℕ) (above : Above) (e : LineError) → IsReadSoFar bytes rest before above
+pub error_at : (bytes rest line more : List ℕ) (before : ℕ) (above : Above) (e : LineError Rule) → IsReadSoFar bytes rest before above
     → Some (line, more) ≡ first_line rest → Judges {A = Above} (Err e) (judge above (before + 1) line)
     → Gives {A = Draft × ℕ} (Err (text_error (before + 1) e)) (reading bytes)
 error_at bytes rest line more before above (error.Breaks R) so_far h broken =
     ap (placed bytes) (by_line bytes rest line more before above so_far h
-    ∙ ap (λ r. read_on (before + 1) (ends line) r (λ next. read_lines next (before + 1 + 1) (lines_of more))) broken)
+    ∙ ap (λ r. read_on (before + 1) (ends line) r (lines_of more) (λ next. read_lines next (before + 1 + 1) (lines_of more))) broken)
 error_at bytes rest line more before above error.Memory so_far h broken = tt
 
 -- the end line
@@ -56,8 +59,8 @@ pub end_at : (bytes rest line more : List ℕ) (before : ℕ) (above next : Abov
 end_at bytes rest line more before above next so_far h taken ended =
     let is_end : ends line ≡ true = sym (ended-ends above (before + 1) (nat_lt 80 (length (words_of line))) (line_of (words_of line)) next taken) ∙ ended in
     ap (placed bytes) (by_line bytes rest line more before above so_far h
-    ∙ ap (λ r. read_on (before + 1) (ends line) r (λ next. read_lines next (before + 1 + 1) (lines_of more))) taken
-    ∙ ap (λ b. read_on (before + 1) b (Ok next) (λ next. read_lines next (before + 1 + 1) (lines_of more))) is_end)
+    ∙ ap (λ r. read_on (before + 1) (ends line) r (lines_of more) (λ next. read_lines next (before + 1 + 1) (lines_of more))) taken
+    ∙ ap (λ b. read_on (before + 1) b (Ok next) (lines_of more) (λ next. read_lines next (before + 1 + 1) (lines_of more))) is_end)
     ∙ ap (λ (left : List ℕ). Ok (next.draft, length bytes - length left)) (sym (behind-more bytes line rest more before so_far.rest_is h))
 
 -- another line
@@ -70,6 +73,6 @@ next_at bytes rest line more before above next so_far h taken ended =
       few = omega (arith, so_far.few);
       rest_is = behind-more bytes line rest more before so_far.rest_is h;
       answers = by_line bytes rest line more before above so_far h
-          ∙ ap (λ r. read_on (before + 1) (ends line) r (λ next. read_lines next (before + 1 + 1) (lines_of more))) taken
-          ∙ ap (λ b. read_on (before + 1) b (Ok next) (λ next. read_lines next (before + 1 + 1) (lines_of more))) is_end;
+          ∙ ap (λ r. read_on (before + 1) (ends line) r (lines_of more) (λ next. read_lines next (before + 1 + 1) (lines_of more))) taken
+          ∙ ap (λ b. read_on (before + 1) b (Ok next) (lines_of more) (λ next. read_lines next (before + 1 + 1) (lines_of more))) is_end;
     }

@@ -20,10 +20,11 @@ use Rattle.pg_forms.specs.declared.line.Line.TheVariants as line
 use Rattle.pg_text.specs.FormFaults.{Above, is_out_of_order, ends}
 use Rattle.pg_forms.specs.Forms.{spelling, IsWellNamed}
 use Rattle.pg_forms.specs.Kinds.{kind_of, rank_of, is_protocol, is_end}
-use Rattle.pg_text.specs.Numbering.{with_line, is_taken, is_full}
+use Rattle.pg_drafting.specs.Numbering.{with_line, is_taken, is_full}
 use Rattle.pg_text.specs.Printing.{numbered, message_line_of}
 use Rattle.pg_forms.specs.Reading.{line_of}
-use Rattle.pg_text.specs.Texts.{judge, judged, read_lines, read_on}
+use Rattle.pg_text.specs.Texts.{judge, judged, read_lines}
+use Rattle.pg_text.proofs.Judging.{read_on}
 use Rattle.pg_text.proofs.Plain.{is_word, are_words, spelling_words}
 use Rattle.pg_forms.proofs.Spellings.{spelled}
 
@@ -77,11 +78,11 @@ ends_written l is_last named ended =
 pub read_written : (above : Above) (n : ℕ) (l : Line) (is_last : Bool) (more : Draft) (lines : List (List ℕ))
     → is_out_of_order n above.kind (kind_of l) ≡ false → IsAdded above.draft n l is_last more
     → read_lines above n (written l ∷ lines)
-    ≡ read_on n is_last (Ok (record { kind = Some (kind_of l); draft = more })) (λ next. read_lines next (n + 1) lines)
+    ≡ read_on n is_last (Ok (record { kind = Some (kind_of l); draft = more })) lines (λ next. read_lines next (n + 1) lines)
 read_written above n l is_last more lines order added =
     let go_on : Above → Result (Draft × ℕ) Fault = λ next. read_lines next (n + 1) lines in
-    ap (λ j. read_on n (ends (written l)) j go_on) (judge_written above n l is_last more order added)
-    ∙ ap (λ b. read_on n b (Ok (record { kind = Some (kind_of l); draft = more })) go_on) (ends_written l is_last added.named added.ended)
+    ap (λ j. read_on n (ends (written l)) j lines go_on) (judge_written above n l is_last more order added)
+    ∙ ap (λ b. read_on n b (Ok (record { kind = Some (kind_of l); draft = more })) lines go_on) (ends_written l is_last added.named added.ended)
 
 -- a line that is not the first is in order behind a kind that comes no later
 pub in_order : (n : ℕ) (k j : Kind) → 2 ≤ n → is_protocol j ≡ false → rank_of k ≤ rank_of j → is_out_of_order n (Some k) j ≡ false

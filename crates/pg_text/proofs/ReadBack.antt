@@ -37,10 +37,11 @@ use Rattle.pg_forms.specs.declared.line.RowShape.TheVariants as row
 use Rattle.pg_lines.specs.Lines.{lines_of, words_of, place_behind}
 use Rattle.pg_forms.specs.Kinds.{rank_of, is_protocol, is_end, kind_of}
 use Rattle.pg_forms.specs.Forms.{spelling}
-use Rattle.pg_text.specs.Numbering.{cache_number, dir_number, message_number, reply_name, pair_of, pairs_of, core_form, core_of, states_of}
-use Rattle.pg_text.specs.Numbering.{take_reply, take_of, action_by_class, action_of, row_form, row_of, with_line}
-use Rattle.pg_text.specs.FormFaults.{Above, nothing, no_draft, is_out_of_order, ends}
-use Rattle.pg_text.specs.Texts.{judge, read_on, read_lines, reading}
+use Rattle.pg_drafting.specs.Numbering.{no_draft, cache_number, dir_number, message_number, reply_name, pair_of, pairs_of, core_form, core_of, states_of}
+use Rattle.pg_drafting.specs.Numbering.{take_reply, take_of, action_by_class, action_of, row_form, row_of, with_line}
+use Rattle.pg_text.specs.FormFaults.{Above, nothing, is_out_of_order, ends}
+use Rattle.pg_text.specs.Texts.{judge, read_lines, reading}
+use Rattle.pg_text.proofs.Judging.{read_on}
 use Rattle.pg_text.specs.Printing.{reply_word, pair_words, core_shape, action_word, row_shape_of}
 use Rattle.pg_text.specs.Printing.{cache_line_of, dir_line_of, message_line_of, core_line_of, take_line_of, row_line_of, lines_in}
 use Rattle.pg_forms.proofs.Options.{then_some, told, mapped, same_ok}
@@ -352,7 +353,7 @@ lines_read : (above : Above) (n : ℕ) (lines : List (List ℕ)) (p : Draft × �
 lines_read above n [] p a e = absurd cc
 lines_read above n (line ∷ lines) p a e = at (judge above n line) (ends line) refl refl e (λ next b. lines_read next (n + 1) lines p b)
   where
-    at : (j : Result Above Rule) (b : Bool) → judge above n line ≡ j → ends line ≡ b → read_on n b j (λ more. read_lines more (n + 1) lines) ≡ Ok p
+    at : (j : Result Above Rule) (b : Bool) → judge above n line ≡ j → ends line ≡ b → read_on n b j lines (λ more. read_lines more (n + 1) lines) ≡ Ok p
         → ((next : Above) → IsAbove next (n + 1) → read_lines next (n + 1) lines ≡ Ok p → IsRead next (n + 1) lines p)
         → IsRead above n (line ∷ lines) p
     at (Err R) b j h e behind = absurd cc

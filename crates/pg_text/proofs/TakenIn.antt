@@ -7,11 +7,12 @@ use Rattle.pg_perm.specs.declared.fault.Rule.TheVariants.{F1, F2, F3, F4, F5}
 use Rattle.pg_forms.specs.declared.line.Line.{Line}
 use Rattle.pg_lines.specs.Lines.{words_of}
 use Rattle.pg_forms.specs.Kinds.{kind_of}
-use Rattle.pg_text.specs.Numbering.{with_line, is_taken, is_full}
+use Rattle.pg_drafting.specs.Numbering.{with_line, is_taken, is_full}
 use Rattle.pg_forms.specs.Reading.{line_of}
 use Rattle.pg_text.specs.FormFaults.{Above, is_out_of_order, breaks, below, after}
 use Rattle.pg_text.specs.Texts.{judge}
-use Rattle.pg_text.proofs.Judging.{IsClean, judge_sound}
+use Rattle.pg_faults.specs.FirstFaults.{IsClean}
+use Rattle.pg_text.proofs.Judging.{judge_sound}
 
 -- what is known of a line that was taken in
 pub record IsTakenIn (above : Above) (n : ℕ) (line : List ℕ) (next : Above) (l : Line) : Type 0 where

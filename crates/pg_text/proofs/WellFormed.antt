@@ -34,9 +34,10 @@ use Rattle.pg_text.specs.Answers.{Gives}
 use Rattle.pg_forms.specs.Kinds.{rank_of, is_protocol, kind_of}
 use Rattle.pg_forms.specs.Pairs.{words_in}
 use Rattle.pg_forms.specs.Forms.{spelling, shape_words, IsWellNamed}
-use Rattle.pg_text.specs.Numbering.{states_of, core_of, take_of, row_of, with_line, is_taken, is_full}
-use Rattle.pg_text.specs.FormFaults.{Above, nothing, no_draft, is_out_of_order, ends}
-use Rattle.pg_text.specs.Texts.{judge, read_on, read_lines, reading}
+use Rattle.pg_drafting.specs.Numbering.{no_draft, states_of, core_of, take_of, row_of, with_line, is_taken, is_full}
+use Rattle.pg_text.specs.FormFaults.{Above, nothing, is_out_of_order, ends}
+use Rattle.pg_text.specs.Texts.{judge, read_lines, reading}
+use Rattle.pg_text.proofs.Judging.{read_on}
 use Rattle.pg_forms.proofs.Options.{mapped, same_ok}
 use Rattle.pg_forms.proofs.Spellings.{found}
 use Rattle.pg_text.proofs.TakenIn.{IsTakenIn, taken_in}
@@ -488,12 +489,12 @@ lines_well_formed above n [] p a e = absurd cc
 lines_well_formed above n (line ∷ lines) p a e =
     at (judge above n line) (ends line) refl e (λ next b. lines_well_formed next (n + 1) lines p b)
   where
-    at : (j : Result Above Rule) (b : Bool) → judge above n line ≡ j → read_on n b j (λ more. read_lines more (n + 1) lines) ≡ Ok p
+    at : (j : Result Above Rule) (b : Bool) → judge above n line ≡ j → read_on n b j lines (λ more. read_lines more (n + 1) lines) ≡ Ok p
         → ((next : Above) → IsAbove next (n + 1) → read_lines next (n + 1) lines ≡ Ok p → IsWellFormed p.0) → IsWellFormed p.0
     at (Err R) b j e behind = absurd cc
     at (Ok next) b j e behind = by b e (taken_in above n line next j)
       where
-        by : (b : Bool) → read_on n b (Ok next) (λ more. read_lines more (n + 1) lines) ≡ Ok p
+        by : (b : Bool) → read_on n b (Ok next) lines (λ more. read_lines more (n + 1) lines) ≡ Ok p
             → (l : Line) × IsTakenIn above n line next l → IsWellFormed p.0
         by true e t =
             let grew = above_next above n line next t.0 a t.1 in

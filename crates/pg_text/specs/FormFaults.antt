@@ -1,26 +1,23 @@
 -- The rules of the form of a text, and its first fault.
-use Rattle.std.specs.Prelude.{ℕ, ◌≡◌, ◌+◌, ◌⊎◌, Bool, false, not, ◌||◌, ◌==◌, nat_lt, List, [], ◌∷◌, length, Option, Some, None, is_none, IsTrue, unwrap_or, codes, if◌then◌else◌}
+use Rattle.std.specs.Prelude.{ℕ, Bool, false, not, ◌||◌, ◌==◌, nat_lt, List, length, Option, Some, None, is_none, unwrap_or, if◌then◌else◌}
 use Rattle.std.specs.Option.{option_map_or}
 use Rattle.pg_perm.specs.declared.draft.Draft.{Draft}
 use Rattle.pg_perm.specs.declared.fault.Fault.{Fault}
 use Rattle.pg_perm.specs.declared.fault.Rule.{Rule}
 use Rattle.pg_perm.specs.declared.fault.Rule.TheVariants.{F1, F2, F3, F4, F5, F6}
-use Rattle.pg_perm.specs.Rules.{IsNoLater}
 use Rattle.pg_forms.specs.declared.line.Kind.{Kind}
 use Rattle.pg_forms.specs.declared.line.Line.{Line}
 use Rattle.pg_lines.specs.Lines.{lines_of, words_of}
 use Rattle.pg_forms.specs.Kinds.{rank_of, is_protocol, is_end, kind_of}
 use Rattle.pg_forms.specs.Reading.{line_of}
-use Rattle.pg_text.specs.Numbering.{with_line, is_taken, is_full}
+use Rattle.pg_drafting.specs.Numbering.{no_draft, with_line, is_taken, is_full}
+use Rattle.pg_faults.specs.FirstFaults.{IsFirstFault}
+use Rattle.pg_faults.specs.LineRules.{LineRules, BreaksIn}
 
 -- the lines above a line: the kind of the one just above, where it is in a form, and what they declare
 pub record Above : Type 0 where
   pub kind : Option Kind
   pub draft : Draft
-
--- the draft of no lines; the protocol line gives it a line and a name
-abbrev pub no_draft : Draft
-no_draft = record { line = 0; name = codes "none"; caches = []; dirs = []; messages = []; cores = []; takes = []; rows = [] }
 
 -- no lines
 abbrev pub nothing : Above
@@ -51,18 +48,14 @@ after above n line = below above n (line_of (words_of line))
 abbrev pub ends : List ℕ → Bool
 ends line = option_map_or (λ l. is_end (kind_of l)) (line_of (words_of line)) false
 
--- line L breaks rule R, where these lines are numbered from n on and stand below others. No line behind the first end line is judged, and
--- F6 is broken behind the last line where there is none
-abbrev pub BreaksIn : Above → ℕ → List (List ℕ) → ℕ → Rule → Type 0
-BreaksIn above n [] L R = (L ≡ n) × (R ≡ F6)
-BreaksIn above n (line ∷ lines) L R = ((L ≡ n) × IsTrue (breaks above n (words_of line) R))
-    ⊎ (IsTrue (not (ends line)) × BreaksIn (after above n line) (n + 1) lines L R)
+-- the rules of the lines of a text. No line after the first end line is judged, and F6 is broken after the last line where there is none
+abbrev pub form_rules : LineRules Above
+form_rules = record { breaks = λ above n line R. breaks above n (words_of line) R; after = after; ends = ends; missing = F6; past = None }
 
 -- line L of the text breaks rule R
 abbrev pub Breaks : List ℕ → ℕ → Rule → Type 0
-Breaks bytes L R = BreaksIn nothing 1 (lines_of bytes) L R
+Breaks bytes L R = BreaksIn form_rules nothing 1 (lines_of bytes) L R
 
 -- the first fault of a text
-pub record IsFormFault (bytes : List ℕ) (f : Fault) : Type 0 where
-  pub broken : Breaks bytes f.line f.rule
-  pub least : (L : ℕ) (R : Rule) → Breaks bytes L R → IsNoLater f L R
+abbrev pub IsFormFault : List ℕ → Fault → Type 0
+IsFormFault bytes f = IsFirstFault (Breaks bytes) f

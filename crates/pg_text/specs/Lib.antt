@@ -1,5 +1,3 @@
-pub mod Tables
-pub mod Numbering
 pub mod FormFaults
 pub mod Texts
 pub mod Answers

@@ -1,6 +1,7 @@
 ghost use Rattle.std.specs.Prelude.{◌≡◌};
 ghost use Rattle.pg_text.specs.declared.error.TextError.TheVariants.{Memory};
 
+use pg_faults::LineError;
 use pg_perm::{Fault, Rule};
 use std::alloc::AllocError;
 use thiserror::Error;
@@ -23,34 +24,14 @@ impl From<AllocError> for TextError {
     }
 }
 
-/// Why a line could not be taken in.
-#[derive(Debug, Drop, Error)]
-pub enum LineError {
-    /// The first rule that it breaks.
-    #[error("it breaks {}", .0.name())]
-    Breaks(Rule),
-    #[error("out of memory")]
-    Memory,
-}
-
-impl From<AllocError> for LineError {
-    ghost use Rattle.pg_text.specs.declared.error.LineError.TheVariants as line;
-
-    ghost from_gives = { λ _ e. e ≡ line.Memory };
-
-    fn from(_error: AllocError) -> LineError {
-        LineError::Memory
-    }
-}
-
-impl LineError {
+impl TextError {
     ghost use Rattle.pg_text.specs.Answers.{text_error};
 
-    /// The same of a text, in which the line has this number.
-    pub fn at(self, line: u32) -> TextError
-        ensures { result ≡ text_error line self }
+    /// The error of a text whose line of this number could not be taken in.
+    pub fn at(line: u32, error: LineError<Rule>) -> TextError
+        ensures { result ≡ text_error line error }
     {
-        match self {
+        match error {
             LineError::Breaks(rule) => TextError::Form(Fault { line, rule }),
             LineError::Memory => TextError::Memory,
         }

@@ -1,7 +1,6 @@
 //! Reads the text of a protocol, and prints it.
 #![tactic(auto)]
 
-mod drafting;
 mod error;
 mod laws;
 mod printer;
@@ -13,6 +12,3 @@ pub use error::TextError;
 pub use laws::{first_fault_is_exact, lines_are_kept, printing_is_exact, worked_texts};
 pub use printer::print;
 pub use text::read;
-
-#[cfg(test)]
-mod tests;

@@ -1,10 +1,10 @@
 ghost use Rattle.std.specs.Prelude.{◌≡◌, length, nat_lt};
-ghost use Rattle.pg_text.specs.Answers.{Judges};
+ghost use Rattle.pg_faults.specs.Answers.{Judges};
 ghost use Rattle.pg_text.specs.FormFaults.{is_out_of_order as is_out_of_order_of, nothing};
 ghost use Rattle.pg_text.specs.Texts.{judge, has_ended_by};
 
-use crate::drafting::Drafting;
-use crate::error::LineError;
+use pg_drafting::Drafting;
+use pg_faults::LineError;
 use pg_forms::{Kind, line_of};
 use pg_lines::Words;
 use pg_perm::{Draft, Rule};
@@ -22,11 +22,12 @@ pub struct Reader {
 }
 
 impl Model for Reader {
+    ghost use Rattle.pg_drafting.specs.Draft.{draft_of};
     ghost use Rattle.pg_text.specs.FormFaults.{Above};
 
     ghost Value = { Above };
 
-    ghost view = { λ r. record { kind = r.kind; draft = r.drafting } };
+    ghost view = { λ r. record { kind = r.kind; draft = draft_of r.drafting } };
 }
 
 /// Whether a line has more words than any may.
@@ -68,7 +69,12 @@ impl Reader {
     }
 
     /// Takes in the next line, whose number is `number`, or says which of the rules F1 to F5 it breaks first.
-    pub fn with_line(self, alloc: Global, number: u32, bytes: &[u8]) -> Result<Reader, LineError>
+    pub fn with_line(
+        self,
+        alloc: Global,
+        number: u32,
+        bytes: &[u8],
+    ) -> Result<Reader, LineError<Rule>>
         ensures { Judges result (judge self number bytes.now) }
     {
         let words = Words::of(bytes);
@@ -79,8 +85,8 @@ impl Reader {
         if is_out_of_order(number, self.kind, kind) {
             return Err(LineError::Breaks(Rule::F2));
         }
-        let Reader { drafting, .. } = self;
-        let drafting = drafting.with_line(alloc, number, line)?;
+        let Reader { mut drafting, .. } = self;
+        drafting.add_line(alloc, number, line)?;
         if is_long(&words) {
             return Err(LineError::Breaks(Rule::F5));
         }

@@ -8,8 +8,7 @@ ghost use Rattle.pg_text.specs.Printing as text;
 
 use pg_perm::{
     Action, CacheLine, CoreForm, CoreLine, DirLine, Draft, MsgClass, MsgLine, Pair, ReplyName,
-    RowForm, RowLine, TakeLine, cache_name, dir_name, dir_word, event_word, forward_word,
-    left_word, message_name, perm_word, request_word, role_word, who_word,
+    RowForm, RowLine, TakeLine, Vocabulary, cache_name, dir_name, message_name,
 };
 use std::alloc::AllocError;
 
@@ -52,8 +51,8 @@ impl Spelled for CacheLine {
     ) -> Result<(), AllocError> {
         words.push("cache")?;
         words.push(self.name.as_str())?;
-        words.push(role_word(self.role))?;
-        words.push(perm_word(self.perm))?;
+        words.push(self.role.word())?;
+        words.push(self.perm.word())?;
         if self.clean {
             words.push("clean")?;
         }
@@ -86,7 +85,7 @@ impl Spelled for DirLine {
     ) -> Result<(), AllocError> {
         words.push("dir")?;
         words.push(self.name.as_str())?;
-        words.push(dir_word(self.kind))?;
+        words.push(self.kind.word())?;
         put_states(words, draft, self.beside.as_slice())
     }
 }
@@ -100,8 +99,8 @@ impl Spelled for MsgLine {
         words: &mut Vec<&'a str>,
     ) -> Result<(), AllocError> {
         let (kind, class) = match self.class {
-            MsgClass::Request(class) => ("request", request_word(class)),
-            MsgClass::Forward(class) => ("forward", forward_word(class)),
+            MsgClass::Request(class) => ("request", class.word()),
+            MsgClass::Forward(class) => ("forward", class.word()),
             MsgClass::Reply => ("reply", "data"),
         };
         words.push(kind)?;
@@ -172,7 +171,7 @@ impl Spelled for CoreLine {
     ) -> Result<(), AllocError> {
         words.push("core")?;
         words.push(cache_name(draft, usize::from(self.state)))?;
-        words.push(event_word(self.event))?;
+        words.push(self.event.word())?;
         put_form(words, draft, &self.form)
     }
 }
@@ -213,13 +212,13 @@ impl Spelled for RowLine {
                 action,
             } => {
                 words.push(message_name(draft, usize::from(request)))?;
-                words.push(who_word(who))?;
+                words.push(who.word())?;
                 words.push(action_word(draft, action))?;
             }
             RowForm::Evict { who, left } => {
                 words.push("evict")?;
-                words.push(who_word(who))?;
-                words.push(left_word(left))?;
+                words.push(who.word())?;
+                words.push(left.word())?;
             }
         }
         words.push(dir_name(draft, usize::from(self.next)))?;

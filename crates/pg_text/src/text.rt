@@ -36,7 +36,7 @@ fn read_lines(alloc: Global, bytes: &[u8]) -> Result<(Draft, u32), TextError>
         let number = before + 1;
         match reader.with_line(alloc, number, line) {
             Ok(more) => reader = more,
-            Err(error) => return Err(error.at(number)),
+            Err(error) => return Err(TextError::at(number, error)),
         }
         if reader.has_ended() {
             let place = (bytes.len() - behind.len()) as u32;

@@ -12,6 +12,7 @@ use std::test::Fail;
 use texts::{MESI, MI, MIGRATORY, MOESI, MOSI, MSI, VISIBLE};
 
 mod histories;
+mod reading;
 mod shapes;
 mod tables;
 mod texts;
@@ -227,11 +228,18 @@ fn each_protocol_is_one(rt: HostRuntime) -> Result<(), Fail> {
     Ok(())
 }
 
-/// Checks that each case has its first fault.
-fn tell(rt: &impl Abort, alloc: Global, cases: &[Case]) -> Result<(), Fail> {
+/// Puts last, for each case that has another first fault, its name and how the check ended.
+fn put_misjudged(
+    rt: &impl Abort,
+    alloc: Global,
+    misjudged: &mut Vec<String>,
+    cases: &[Case],
+) -> Result<(), Fail> {
     for (name, base, edits, (line, rule)) in cases {
         let (status, _) = check(alloc, edited(rt, alloc, base.text(), edits)?)?;
-        assert_eq!(rt; status, breaks(*line, *rule), "{name}");
+        if status != breaks(*line, *rule) {
+            misjudged.push(format!(in alloc; "{name}: {status:?}")?)?;
+        }
     }
     Ok(())
 }
@@ -239,6 +247,7 @@ fn tell(rt: &impl Abort, alloc: Global, cases: &[Case]) -> Result<(), Fail> {
 #[test]
 fn each_rule_of_the_shape_is_told(rt: HostRuntime) -> Result<(), Fail> {
     let alloc = rt.alloc();
+    let mut misjudged = Vec::new(alloc);
     for cases in [
         shapes::CASES_1,
         shapes::CASES_2,
@@ -259,8 +268,9 @@ fn each_rule_of_the_shape_is_told(rt: HostRuntime) -> Result<(), Fail> {
         shapes::CASES_17,
         shapes::CASES_18,
     ] {
-        tell(&rt, alloc, cases)?;
+        put_misjudged(&rt, alloc, &mut misjudged, cases)?;
     }
+    assert!(rt; misjudged.is_empty(), "{misjudged:?}");
     Ok(())
 }
 

@@ -9,9 +9,9 @@ use Rattle.pg_infer.proofs.stable.by_store.Goals as goal
 pub returns-then-is_allowed : goal.returns-then-is_allowed
 returns-then-is_allowed c =
     subst (λ (cs : List Choice). IfOk c.hit.result (λ x. (m : Mode) → x ≡ chosen m cs))
-    (sym (with_permission c.args.protocol.now c.args.state (cc (c.is_allowed.ensures, c.if-is_allowed.true, c.draft.ensures.exact, c.from.ensures)))) c.hit.ensures
+    (sym (with_permission c.args.protocol.now c.args.state (cc (c.is_allowed.ensures, c.if-is_allowed.true, c.draft.ensures.exact)))) c.hit.ensures
 
 pub returns-else-is_allowed : goal.returns-else-is_allowed
 returns-else-is_allowed c =
     subst (λ (cs : List Choice). IfOk c.ask_to_write.result (λ x. (m : Mode) → x ≡ chosen m cs))
-    (sym (without_permission c.args.protocol.now c.args.state (cc (c.is_allowed.ensures, c.if-is_allowed.false, c.draft.ensures.exact, c.from.ensures)))) c.ask_to_write.ensures
+    (sym (without_permission c.args.protocol.now c.args.state (cc (c.is_allowed.ensures, c.if-is_allowed.false, c.draft.ensures.exact)))) c.ask_to_write.ensures

@@ -1,5 +1,4 @@
-use Rattle.pg_script.proofs.Faults.{fault, script}
-use Rattle.pg_script.proofs.Unique.{only_fault, only_script}
+use Rattle.pg_script.proofs.Faults.{fault, script, only_fault, only_script}
 use Rattle.pg_script.proofs.laws.first_fault_is_exact.Goals as goal
 
 pub returns-clause-fault : goal.returns-clause-fault

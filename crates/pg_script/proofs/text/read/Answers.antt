@@ -4,10 +4,9 @@ use Rattle.pg_script.specs.Forms.{spelling}
 use Rattle.pg_script.specs.Printing.{lines_in, printed, IsTextOf}
 use Rattle.pg_script.specs.Scripts.{IsWithin}
 use Rattle.pg_script.specs.Texts.{IsScript}
-use Rattle.pg_script.proofs.Faults.{script}
+use Rattle.pg_script.proofs.Faults.{script, answered_fault, answered}
 use Rattle.pg_script.proofs.Bytes.{text_kept}
 use Rattle.pg_script.proofs.Taken.{words_kept, within_bounds}
-use Rattle.pg_script.proofs.Unique.{answered_fault, answered}
 use Rattle.pg_script.proofs.text.read.Goals as goal
 
 pub returns-clause-fault : goal.returns-clause-fault

@@ -5,7 +5,9 @@ use Rattle.pg_shape.proofs.Given.{shaped}
 use Rattle.pg_shape.proofs.protocol.shape.Goals as goal
 
 pub invariant_of-result : goal.invariant_of-result
-invariant_of-result c = record { well_formed = c.requires; shape = whole c.args.draft c.requires (sym c.shape_fault.ensures ∙ c.in-None.is) }
+invariant_of-result c =
+    let shape = whole c.args.draft c.requires (sym c.shape_fault.ensures ∙ c.in-None.is) in
+    record { well_formed = c.requires; shape = shape; shaped = shaped c.args.draft c.requires shape }
 
 pub returns-in-Some-clause-fault : goal.returns-in-Some-clause-fault
 returns-in-Some-clause-fault c = λ f e.

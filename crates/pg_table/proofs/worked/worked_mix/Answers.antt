@@ -3,7 +3,8 @@ use Rattle.pg_perm.specs.Drafts.{IsWellFormed}
 use Rattle.pg_shape.specs.Shaped.{IsShaped}
 use Rattle.pg_shape.proofs.Exact.{whole}
 use Rattle.pg_shape.proofs.Given.{shaped}
-use Rattle.pg_table.specs.Worked.{msi, acks_at_loads, msi_mix}
+use Rattle.pg_samples.specs.Drafts.{msi}
+use Rattle.pg_table.specs.Worked.{acks_at_loads, msi_mix}
 use Rattle.pg_table.proofs.MixTest.{tested_mix}
 use Rattle.pg_table.proofs.Mixed.{mixed_is_sound}
 use Rattle.pg_table.proofs.worked.worked_mix.Goals as goal

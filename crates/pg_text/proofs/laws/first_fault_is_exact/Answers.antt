@@ -1,5 +1,4 @@
-use Rattle.pg_text.proofs.Faults.{fault, text}
-use Rattle.pg_text.proofs.Unique.{only_fault, only_text}
+use Rattle.pg_text.proofs.Faults.{fault, text, only_fault, only_text}
 use Rattle.pg_text.proofs.laws.first_fault_is_exact.Goals as goal
 
 pub returns-clause-fault : goal.returns-clause-fault

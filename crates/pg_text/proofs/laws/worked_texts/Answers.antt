@@ -1,6 +1,6 @@
 use Rattle.std.proofs.Common.{refl}
 use Rattle.pg_forms.specs.Reading.{line_of, protocol_line, name_at, cache_line, state_at, dir_line, request_line, reply_line, core_line, leaving_shape, end_line}
-use Rattle.pg_text.specs.Numbering.{message_number, pair_of, core_form, core_of}
+use Rattle.pg_drafting.specs.Numbering.{message_number, pair_of, core_form, core_of}
 use Rattle.pg_text.proofs.laws.worked_texts.Goals as goal
 
 pub returns-clause-no_line : goal.returns-clause-no_line

@@ -1,4 +1,4 @@
-use Rattle.pg_text.proofs.Unique.{answered_fault, answered_text}
+use Rattle.pg_text.proofs.Faults.{answered_fault, answered_text}
 use Rattle.pg_text.proofs.WellFormed.{answered_well_formed}
 use Rattle.pg_text.proofs.text.read.Goals as goal
 

@@ -6,8 +6,8 @@ use Rattle.pg_atomic.proofs.machine.Atomic.make.Goals as goal
 
 pub returns-clause-opens : goal.returns-clause-opens
 returns-clause-opens c =
-    opens c.args.protocol.now c.args.cores c.out.result c.idle.result c.in_ok-vec.field-0.items c.in_ok-vec-2.field-0.items (ap out (sym c.draft-draft.ensures.exact) ∙ c.out.ensures)
-    (c.in_ok-vec.ensures.items_if_clones_equal (λ y e. e)) (c.in_ok-vec-2.ensures.items_if_clones_equal (λ y e. e))
+    opens c.args.protocol.now c.args.cores c.out.result c.idle.result c.in_ok-vec.field-0.items c.new.result (ap out (sym c.draft-draft.ensures.exact) ∙ c.out.ensures)
+    (c.in_ok-vec.ensures.items_if_clones_equal (λ y e. e)) c.new.ensures
     (c.idle.ensures ∙ ap (λ d. (start d).dir) c.draft-draft.ensures.exact)
 
 pub returns-clause-reached : goal.returns-clause-reached

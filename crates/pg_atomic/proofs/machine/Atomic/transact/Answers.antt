@@ -1,7 +1,7 @@
 use Rattle.std.proofs.Common.{length, sym, ap, ◌∙◌, arith}
 use Rattle.pg_standing.specs.Standings.{Request}
 use Rattle.pg_atomic.specs.States.{State}
-use Rattle.pg_atomic.proofs.Runs.{rows_of, owner_inside}
+use Rattle.pg_atomic.proofs.Runs.{rows_of, owner_inside, sharers_inside}
 use Rattle.pg_atomic.proofs.Each.{length-transact}
 use Rattle.pg_atomic.proofs.machine.Atomic.transact.Goals as goal
 
@@ -35,3 +35,9 @@ note_request-requires-clause-owner c = λ o e.
       owner_inside c.args.draft.now c.args.self.now c.requires.well_formed c.requires.shaped c.requires.reached o
           (ap (λ (a : State). a.home.owner) (sym c.move_cores.ensures) ∙ e),
     )
+
+pub move_cores-requires-clause-owner : goal.move_cores-requires-clause-owner
+move_cores-requires-clause-owner c = owner_inside c.args.draft.now c.args.self.now c.requires.well_formed c.requires.shaped c.requires.reached
+
+pub move_cores-requires-clause-sharers : goal.move_cores-requires-clause-sharers
+move_cores-requires-clause-sharers c = sharers_inside c.args.draft.now c.args.self.now c.requires.well_formed c.requires.shaped c.requires.reached

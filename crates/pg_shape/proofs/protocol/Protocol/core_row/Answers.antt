@@ -6,4 +6,4 @@ use Rattle.pg_shape.proofs.protocol.Protocol.core_row.Goals as goal
 pub unwrap-requires : goal.unwrap-requires
 unwrap-requires c =
     core_answered c.args.self.now (subst HasShape c.self.view_is c.self.invariant.shape) c.args.state c.args.event c.requires.state c.requires.event c.core_row.result
-    (cc (c.core_row.ensures, c.from.ensures, c.self.view_is))
+    (cc (c.core_row.ensures, c.self.view_is))

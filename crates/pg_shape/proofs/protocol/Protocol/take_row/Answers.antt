@@ -6,4 +6,4 @@ use Rattle.pg_shape.proofs.protocol.Protocol.take_row.Goals as goal
 pub returns-clause-none : goal.returns-clause-none
 returns-clause-none c =
     take_answered c.args.self.now (subst HasShape c.self.view_is c.self.invariant.shape) c.args.state c.args.forward c.take_row.result
-    (cc (c.take_row.ensures, c.from.ensures, c.from-2.ensures, c.self.view_is))
+    (cc (c.take_row.ensures, c.self.view_is))
