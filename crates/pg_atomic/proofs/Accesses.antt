@@ -17,11 +17,11 @@ use Rattle.pg_perm.specs.declared.kinds.Perm.TheVariants as perm
 use Rattle.pg_shape.specs.Shaped.{IsShaped}
 use Rattle.pg_shape.specs.CoreRules.{is_hit}
 use Rattle.pg_terms.specs.Rows.{allows, store_next}
-use Rattle.pg_standing.specs.Standings.{Standing, who, is_among}
-use Rattle.pg_standing.specs.Sound.{IsSound, fits, fits_as}
+use Rattle.pg_directory.specs.DirEntries.{DirEntry, who, is_among}
+use Rattle.pg_directory.specs.Sound.{IsSound, fits, fits_as}
 use Rattle.pg_atomic.specs.States.{State, state_of, hit_next}
 use Rattle.pg_atomic.specs.Steps.{may}
-use Rattle.pg_atomic.specs.Safe.{IsSafe, HasOneWriter}
+use Rattle.pg_atomic.specs.Safety.{IsSafe, HasSingleWriter}
 use Rattle.pg_atomic.proofs.Fits.{cache_at, owner_line, line_of, out_loads, out_stores, shared_stores, owner_writes}
 
 -- who may write is the owner
@@ -53,22 +53,22 @@ pub safe_store : (d : Draft) → IsShaped d → (a : State) (c v : ℕ) → IsSa
 safe_store d s a c v safe inside m =
     let y : ℕ = hit_next d (state_of a c) in
     let same : length (set a.states c y) ≡ length a.states = length-set a.states c y in
-    let (owns, at) = writer_owns d s a.home.dir (who a.home c) (state_of a c) (safe.fits c inside) m in
+    let (owns, at) = writer_owns d s a.entry.dir (who a.entry c) (state_of a c) (safe.fits c inside) m in
     record {
-      home = subst (λ (n : ℕ). IsSound d n a.home) (sym same) safe.home;
-      fits = λ e there. by y owns (hit_listed d s a.home.dir (state_of a c) at m) e (omega (arith, there, same)) (e == c) refl;
+      entry = subst (λ (n : ℕ). IsSound d n a.entry) (sym same) safe.entry;
+      fits = λ e there. by y owns (hit_listed d s a.entry.dir (state_of a c) at m) e (omega (arith, there, same)) (e == c) refl;
     }
   where
-    by : (y : ℕ) → who a.home c ≡ Owner → lists d a.home.dir y ≡ true → (e : ℕ) → e < length a.states → (b : Bool) → (e == c) ≡ b
-        → fits d a.home e (get_or (set a.states c y) e 0) ≡ true
+    by : (y : ℕ) → who a.entry c ≡ Owner → lists d a.entry.dir y ≡ true → (e : ℕ) → e < length a.states → (b : Bool) → (e == c) ≡ b
+        → fits d a.entry e (get_or (set a.states c y) e 0) ≡ true
     by y owns listed e there true h =
         let same : e ≡ c = eqb-true e c h in
-        ap (λ (i : ℕ). fits d a.home i (get_or (set a.states c y) i 0)) same
-        ∙ ap (fits d a.home c) (get_or-set_same a.states c y 0 inside)
-        ∙ ap (λ (w : Who). fits_as d a.home.dir w y) owns ∙ listed
+        ap (λ (i : ℕ). fits d a.entry i (get_or (set a.states c y) i 0)) same
+        ∙ ap (fits d a.entry c) (get_or-set_same a.states c y 0 inside)
+        ∙ ap (λ (w : Who). fits_as d a.entry.dir w y) owns ∙ listed
     by y owns listed e there false h =
         let apart : e ≢ c = λ g. not_both h (eq-eqb e c g) in
-        ap (fits d a.home e) (get_or-set_other a.states c e y 0 apart) ∙ safe.fits e there
+        ap (fits d a.entry e) (get_or-set_other a.states c e y 0 apart) ∙ safe.fits e there
       where
         not_both : (e == c) ≡ false → (e == c) ≡ true → ⊥
         not_both h g = absurd (cc (h, g))
@@ -81,7 +81,7 @@ read_or_write perm.Read h g = absurd cc
 read_or_write perm.Write h g = absurd cc
 
 -- a directory state that lists a writer is owned
-owned_by : (d : Draft) → IsShaped d → (n : ℕ) (home : Standing) (x : ℕ) → IsSound d n home → lists d home.dir x ≡ true → may d x Store ≡ true
+owned_by : (d : Draft) → IsShaped d → (n : ℕ) (home : DirEntry) (x : ℕ) → IsSound d n home → lists d home.dir x ≡ true → may d x Store ≡ true
     → (o : ℕ) → home.owner ≡ Some o → home.sharers ≡ []
 owned_by d s n home x sound at m o owner = by sound.kind.0 sound.kind.1
   where
@@ -107,10 +107,10 @@ owned_by d s n home x sound at m o owner = by sound.kind.0 sound.kind.1
     by kind.Mixed k = absurd (mixed k)
 
 -- beside an owner without sharers each core is neither
-who_other : (home : Standing) (o e : ℕ) → home.owner ≡ Some o → home.sharers ≡ [] → (o == e) ≡ false → who home e ≡ Other
+who_other : (home : DirEntry) (o e : ℕ) → home.owner ≡ Some o → home.sharers ≡ [] → (o == e) ≡ false → who home e ≡ Other
 who_other home o e owner none apart = rw owner (rw apart (rw none refl))
 
-owner_of : (b : Bool) (home : Standing) (c : ℕ) → is home.owner c ≡ b → who home c ≡ Owner → is home.owner c ≡ true
+owner_of : (b : Bool) (home : DirEntry) (c : ℕ) → is home.owner c ≡ b → who home c ≡ Owner → is home.owner c ≡ true
 owner_of true home c h e = h
 owner_of false home c h e = absurd (not_owner (is_among home.sharers c) (sym (rw h refl) ∙ e))
   where
@@ -122,12 +122,12 @@ is_this : (o : Option ℕ) (c : ℕ) → is o c ≡ true → o ≡ Some c
 is_this None c h = absurd cc
 is_this (Some m) c h = ap Some (eqb-true m c h)
 
-pub one_writer : (d : Draft) → IsShaped d → (a : State) → IsSafe d a → HasOneWriter d a
-one_writer d s a safe c e inside there apart m =
-    let (owns, at) = writer_owns d s a.home.dir (who a.home c) (state_of a c) (safe.fits c inside) m in
-    let owner : a.home.owner ≡ Some c = is_this a.home.owner c (owner_of (is a.home.owner c) a.home c refl owns) in
-    let none = owned_by d s (length a.states) a.home (state_of a c) safe.home at m c owner in
-    let out_there = ap (λ (w : Who). fits_as d a.home.dir w (state_of a e)) (sym (who_other a.home c e owner none (differ (c == e) refl))) ∙ safe.fits e there in
+pub single_writer : (d : Draft) → IsShaped d → (a : State) → IsSafe d a → HasSingleWriter d a
+single_writer d s a safe c e inside there apart m =
+    let (owns, at) = writer_owns d s a.entry.dir (who a.entry c) (state_of a c) (safe.fits c inside) m in
+    let owner : a.entry.owner ≡ Some c = is_this a.entry.owner c (owner_of (is a.entry.owner c) a.entry c refl owns) in
+    let none = owned_by d s (length a.states) a.entry (state_of a c) safe.entry at m c owner in
+    let out_there = ap (λ (w : Who). fits_as d a.entry.dir w (state_of a e)) (sym (who_other a.entry c e owner none (differ (c == e) refl))) ∙ safe.fits e there in
     (out_loads d s (state_of a e) out_there, out_stores d s (state_of a e) out_there)
   where
     differ : (b : Bool) → (c == e) ≡ b → (c == e) ≡ false

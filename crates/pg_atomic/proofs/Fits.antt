@@ -14,20 +14,20 @@ use Rattle.pg_terms.specs.Terms.{is, is_out, is_shared, is_owner, is_none_perm, 
 use Rattle.pg_shape.specs.Shaped.{IsShaped, IsCache}
 use Rattle.pg_terms.specs.Rows.{allows}
 use Rattle.pg_shape.proofs.Searches.{position_get, map_or_get}
-use Rattle.pg_standing.specs.Sound.{fits_as}
+use Rattle.pg_directory.specs.Sound.{fits_as}
 
-pub is_some : (o : Option ℕ) (n : ℕ) → is o n ≡ true → o ≡ Some n
-is_some None n h = absurd cc
-is_some (Some m) n h = ap Some (eqb-true m n h)
+pub is_then_some : (o : Option ℕ) (n : ℕ) → is o n ≡ true → o ≡ Some n
+is_then_some None n h = absurd cc
+is_then_some (Some m) n h = ap Some (eqb-true m n h)
 
 pub cache_at : (test : CacheLine → Bool) (d : Draft) (x : ℕ) (c : CacheLine) → IsCache d x c → cache_is test d x ≡ test c
 cache_at test d x c h = ap (λ (o : Option CacheLine). option_map_or test o false) h
 
 pub out_line : (d : Draft) (x : ℕ) → is (out d) x ≡ true → (c : CacheLine) × IsCache d x c × (is_out c.role ≡ true)
-out_line d x h = let p = position_get (λ c. is_out c.role) d.caches x (is_some (out d) x h) in (p.1.0, p.1.1, p.1.2)
+out_line d x h = let p = position_get (λ c. is_out c.role) d.caches x (is_then_some (out d) x h) in (p.1.0, p.1.1, p.1.2)
 
 pub shared_line : (d : Draft) (x : ℕ) → is (shared d) x ≡ true → (c : CacheLine) × IsCache d x c × (is_shared c.role ≡ true)
-shared_line d x h = let p = position_get (λ c. is_shared c.role) d.caches x (is_some (shared d) x h) in (p.1.0, p.1.1, p.1.2)
+shared_line d x h = let p = position_get (λ c. is_shared c.role) d.caches x (is_then_some (shared d) x h) in (p.1.0, p.1.1, p.1.2)
 
 pub owner_line : (d : Draft) → IsShaped d → (n x : ℕ) → lists d n x ≡ true → (c : CacheLine) × IsCache d x c × (is_owner c.role ≡ true)
 owner_line d s n x h = map_or_get (λ c. is_owner c.role) (slice_get d.caches x) (s.lists.lists_owners n x h)

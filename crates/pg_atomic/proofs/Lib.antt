@@ -9,4 +9,4 @@ pub mod Starts
 pub mod Runs
 pub mod Each
 pub mod Received
-pub mod Homes
+pub mod Entries

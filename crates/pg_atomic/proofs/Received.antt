@@ -8,10 +8,10 @@ use Rattle.pg_perm.specs.declared.kinds.Event.TheVariants.{Load, Store, Evict}
 use Rattle.pg_perm.specs.declared.draft.Draft.{Draft}
 use Rattle.pg_perm.specs.declared.draft.RowLine.{RowLine}
 use Rattle.pg_terms.specs.Terms.{is, same_event}
-use Rattle.pg_standing.specs.Standings.{Standing, Request, is_among, with_owner, row_of}
-use Rattle.pg_standing.specs.Sends.{sent_by}
-use Rattle.pg_standing.proofs.Cores.{are_below, among_without_other, among_with_same, among_with_other, below_with, below_without}
-use Rattle.pg_atomic.specs.States.{taken, take_next}
+use Rattle.pg_directory.specs.DirEntries.{DirEntry, Request, is_among, with_owner, row_of}
+use Rattle.pg_directory.specs.Sends.{forward_by_row}
+use Rattle.pg_directory.proofs.Cores.{are_below, among_without_other, among_with_same, among_with_other, below_with, below_without}
+use Rattle.pg_atomic.specs.States.{next_by_forward, take_next}
 use Rattle.pg_atomic.specs.Receivers.{invalidated, receivers}
 
 -- who isn't among the cores with the owner is no owner, and not among the cores
@@ -26,16 +26,16 @@ without_owner (Some o) c xs h = at (o == c) refl
         absurd (cc (sym h ∙ among))
     at false e = (e, sym (among_with_other o c xs e) ∙ h)
 
--- who may be sent no inv isn't sent one
-no_inv : (s : Standing) (e : Event) (c : ℕ) → is_among (invalidated s e) c ≡ false → (same_event e Store && is_among s.sharers c) ≡ false
+-- who may be sent no invalidation isn't sent one
+no_inv : (s : DirEntry) (e : Event) (c : ℕ) → is_among (invalidated s e) c ≡ false → (same_event e Store && is_among s.sharers c) ≡ false
 no_inv s Load c h = refl
 no_inv s Store c h = h
 no_inv s Evict c h = refl
 
-nothing_sent : (d : Draft) (s : Standing) (q : Request) (c : ℕ) (r : RowLine) → is_among (receivers s q) c ≡ false → sent_by d s q c r ≡ None
+nothing_sent : (d : Draft) (s : DirEntry) (q : Request) (c : ℕ) (r : RowLine) → is_among (receivers s q) c ≡ false → forward_by_row d s q c r ≡ None
 nothing_sent d s q c r h = at (q.core == c) refl
   where
-    at : (t : Bool) → (q.core == c) ≡ t → sent_by d s q c r ≡ None
+    at : (t : Bool) → (q.core == c) ≡ t → forward_by_row d s q c r ≡ None
     at true e = rw e refl
     at false e =
         let others : is_among (with_owner s.owner (invalidated s q.event)) c ≡ false =
@@ -46,10 +46,10 @@ nothing_sent d s q c r h = at (q.core == c) refl
         rw (e, inv, own) refl
 
 -- a core that isn't among the receivers stays
-pub stays : (d : Draft) (s : Standing) (q : Request) (c x : ℕ) → is_among (receivers s q) c ≡ false → taken d s q c x ≡ x
+pub stays : (d : Draft) (s : DirEntry) (q : Request) (c x : ℕ) → is_among (receivers s q) c ≡ false → next_by_forward d s q c x ≡ x
 stays d s q c x h = ap (λ m. option_map_or (take_next d x) m x) (at (row_of d s q))
   where
-    at : (r : Option RowLine) → option_and_then (sent_by d s q c) r ≡ None
+    at : (r : Option RowLine) → option_and_then (forward_by_row d s q c) r ≡ None
     at None = refl
     at (Some r) = nothing_sent d s q c r h
 
@@ -57,12 +57,12 @@ below_owner : (n : ℕ) (o : Option ℕ) (xs : List ℕ) → ((c : ℕ) → o �
 below_owner n None xs owner h = h
 below_owner n (Some o) xs owner h = below_with n o xs (owner o refl) h
 
-below_invalidated : (n : ℕ) (s : Standing) (e : Event) → are_below n s.sharers ≡ true → are_below n (invalidated s e) ≡ true
+below_invalidated : (n : ℕ) (s : DirEntry) (e : Event) → are_below n s.sharers ≡ true → are_below n (invalidated s e) ≡ true
 below_invalidated n s Load h = refl
 below_invalidated n s Store h = h
 below_invalidated n s Evict h = refl
 
-pub receivers_below : (n : ℕ) (s : Standing) (q : Request) → ((o : ℕ) → s.owner ≡ Some o → o < n) → are_below n s.sharers ≡ true
+pub receivers_below : (n : ℕ) (s : DirEntry) (q : Request) → ((o : ℕ) → s.owner ≡ Some o → o < n) → are_below n s.sharers ≡ true
     → are_below n (receivers s q) ≡ true
 receivers_below n s q owner h =
     below_without n q.core (with_owner s.owner (invalidated s q.event)) (below_owner n s.owner (invalidated s q.event) owner (below_invalidated n s q.event h))

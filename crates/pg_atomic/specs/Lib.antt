@@ -2,5 +2,5 @@ pub mod Receivers
 pub mod States
 pub mod Steps
 pub mod Scripts
-pub mod Safe
+pub mod Safety
 pub mod Accesses

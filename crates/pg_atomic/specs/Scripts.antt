@@ -9,7 +9,7 @@ use Rattle.pg_perm.specs.declared.draft.Draft.{Draft}
 use Rattle.pg_atomic.specs.States.{State, state_of}
 use Rattle.pg_atomic.specs.Steps.{may, after_steps}
 
--- the steps of an operation: a load or a store, behind a transaction where it takes one, and for an evict a transaction where there is
+-- the steps of an operation: a load or a store, after a transaction where it takes one, and for an evict a transaction where there is
 -- something to evict
 abbrev pub op_steps : Draft → State → ℕ → Op → List Step
 op_steps d a c op.Load = if may d (state_of a c) event.Load then Load c a.word ∷ [] else Txn c event.Load ∷ Load c a.word ∷ []
@@ -22,6 +22,6 @@ steps_of d a [] = []
 steps_of d a (o ∷ ops) = op_steps d a o.0 o.1 ++ steps_of d (after_steps d a (op_steps d a o.0 o.1)) ops
 
 -- each operation is of one of n cores
-abbrev pub AreOf : ℕ → List (ℕ × Op) → Type 0
-AreOf n [] = Unit {0}
-AreOf n (o ∷ ops) = (o.0 < n) × AreOf n ops
+abbrev pub AreOfCores : ℕ → List (ℕ × Op) → Type 0
+AreOfCores n [] = Unit {0}
+AreOfCores n (o ∷ ops) = (o.0 < n) × AreOfCores n ops

@@ -6,11 +6,11 @@ ghost use Rattle.pg_perm.specs.declared.kinds.Op.{Op};
 ghost use Rattle.pg_perm.specs.declared.step.Step.{Step};
 ghost use Rattle.pg_perm.specs.Drafts.{IsWellFormed};
 ghost use Rattle.pg_shape.specs.Shaped.{IsShaped};
-ghost use Rattle.pg_standing.specs.Standings.{after_all};
-ghost use Rattle.pg_atomic.specs.States.{State, opening};
+ghost use Rattle.pg_directory.specs.DirEntries.{entry_after_all};
+ghost use Rattle.pg_atomic.specs.States.{State, initial_state};
 ghost use Rattle.pg_atomic.specs.Steps.{IsReached, IsRun, after_steps, requests_of};
-ghost use Rattle.pg_atomic.specs.Scripts.{AreOf, steps_of};
-ghost use Rattle.pg_atomic.specs.Safe.{RunsSafely};
+ghost use Rattle.pg_atomic.specs.Scripts.{AreOfCores, steps_of};
+ghost use Rattle.pg_atomic.specs.Safety.{RunsSafely};
 
 /// In each state that a run of the atomic machine reaches, each transaction has its rows, and where a core may write no other may read or
 /// write.
@@ -20,10 +20,10 @@ pub fn runs_are_safe()
 
 /// The steps of operations of cores that there are, one after another, are a run of the atomic machine.
 pub fn operations_are_runs()
-    ensures { (d : Draft) (n : ℕ) (ops : List (ℕ × Op)) → IsWellFormed d → IsShaped d → AreOf n ops → IsRun d n (steps_of d (opening d n) ops) }
+    ensures { (d : Draft) (n : ℕ) (ops : List (ℕ × Op)) → IsWellFormed d → IsShaped d → AreOfCores n ops → IsRun d n (steps_of d (initial_state d n) ops) }
 {}
 
 /// What the directory knows after steps is the fold of the requests among them.
-pub fn homes_follow()
-    ensures { (d : Draft) (a : State) (steps : List Step) → (after_steps d a steps).home ≡ after_all d a.home (requests_of steps) }
+pub fn entries_follow_requests()
+    ensures { (d : Draft) (a : State) (steps : List Step) → (after_steps d a steps).entry ≡ entry_after_all d a.entry (requests_of steps) }
 {}

@@ -5,5 +5,5 @@ mod laws;
 mod machine;
 mod rows;
 
-pub use laws::{homes_follow, operations_are_runs, runs_are_safe};
+pub use laws::{entries_follow_requests, operations_are_runs, runs_are_safe};
 pub use machine::{Atomic, TxnAnswer};

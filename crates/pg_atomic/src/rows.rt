@@ -8,7 +8,7 @@ ghost use Rattle.pg_terms.specs.Terms as term;
 ghost use Rattle.pg_terms.specs.Due as due;
 ghost use Rattle.pg_terms.specs.Rows as says;
 ghost use Rattle.pg_shape.specs.Shaped as shaped;
-ghost use Rattle.pg_standing.specs.Standings as standings;
+ghost use Rattle.pg_directory.specs.DirEntries as dir_entries;
 ghost use Rattle.pg_atomic.specs.States as states;
 ghost use Rattle.pg_atomic.specs.Steps as steps;
 
@@ -57,7 +57,7 @@ fn idle_state(draft: &Draft) -> Option<usize>
 pub fn idle(draft: &Draft) -> u8
     requires well_formed { IsWellFormed draft.now }
     requires shaped { shaped.IsShaped draft.now }
-    ensures { result ≡ (standings.start draft.now).dir }
+    ensures { result ≡ (dir_entries.initial_entry draft.now).dir }
 {
     idle_state(draft).unwrap() as u8
 }

@@ -11,17 +11,17 @@ use Rattle.pg_script.specs.declared.script.ScriptOp.{ScriptOp}
 use Rattle.pg_script.specs.Scripts.{Operations, is_inside}
 use Rattle.pg_history.specs.HistoryText.{block_text}
 use Rattle.pg_perm.specs.declared.step.Step.TheVariants as step
-use Rattle.pg_atomic.specs.States.{State, opening, moved}
+use Rattle.pg_atomic.specs.States.{State, initial_state, core_next}
 use Rattle.pg_atomic.specs.Steps.{IsReached, after_step, after_steps}
 use Rattle.pg_atomic.proofs.Cores.{length-each_from}
 use Rattle.pg_atomic.specs.Scripts.{op_steps, steps_of}
 use Rattle.pg_atomic_run.specs.declared.block.Block.{Block}
 use Rattle.pg_atomic_run.specs.Histories.{ops_on, block_steps, block_texts}
-use Rattle.pg_atomic_run.specs.Blocks.{after_op, AreReached, AreAt, AreOpen, texts_of}
+use Rattle.pg_atomic_run.specs.Blocks.{block_after_op, AreReached, AreStepsSoFar, AreOpen, texts_of}
 
 -- steps leave the number of cores
 length_step : (d : Draft) (a : State) (x : Step) → length (after_step d a x).states ≡ length a.states
-length_step d a (step.Txn c e) = length-each_from (moved d a (record { core = c; event = e })) 0 a.states
+length_step d a (step.Txn c e) = length-each_from (core_next d a (record { core = c; event = e })) 0 a.states
 length_step d a (step.Stale c) = refl
 length_step d a (step.Load c v) = refl
 length_step d a (step.Store c v) = length-set a.states c _
@@ -74,11 +74,11 @@ pub ops_apart : (o : ScriptOp) (rest : List ScriptOp) (b : ℕ) → (o.block == 
 ops_apart o rest b h = rw h refl
 
 -- the blocks once an operation was made
-pub at_after : (d : Draft) (all : ℕ → List Step) (o : ScriptOp) (rest : List ScriptOp) (xs : List Block) (x : Block) → AreAt d all (o ∷ rest) xs
-    → slice_get xs o.block ≡ Some x → AreAt d all rest (slice_set xs o.block (after_op d o.core o.op x))
+pub at_after : (d : Draft) (all : ℕ → List Step) (o : ScriptOp) (rest : List ScriptOp) (xs : List Block) (x : Block) → AreStepsSoFar d all (o ∷ rest) xs
+    → slice_get xs o.block ≡ Some x → AreStepsSoFar d all rest (slice_set xs o.block (block_after_op d o.core o.op x))
 at_after d all o rest xs x at here =
     set_each (λ b z. z.steps ++ steps_of d z.atomic (ops_on (o ∷ rest) b) ≡ all b) (λ b z. z.steps ++ steps_of d z.atomic (ops_on rest b) ≡ all b) xs o.block
-    (after_op d o.core o.op x) at others own
+    (block_after_op d o.core o.op x) at others own
   where
     others : (b : ℕ) (z : Block) → (o.block == b) ≡ false → z.steps ++ steps_of d z.atomic (ops_on (o ∷ rest) b) ≡ all b
         → z.steps ++ steps_of d z.atomic (ops_on rest b) ≡ all b
@@ -97,14 +97,14 @@ reached_after d n xs i y reached own cores =
     reached (λ b z apart h. h) (own, cores)
 
 -- blocks that are open
-pub open_at : (d : Draft) (s : Operations) (xs : List Block) → AreOpen d s.cores xs → AreAt d (block_steps d s) s.ops xs
+pub open_at : (d : Draft) (s : Operations) (xs : List Block) → AreOpen d s.cores xs → AreStepsSoFar d (block_steps d s) s.ops xs
 open_at d s xs opened b x at =
     let is = opened b x at in
     ap (λ (z : Block). z.steps ++ steps_of d z.atomic (ops_on s.ops b)) is
 
-pub open_reached : (d : Draft) (n : ℕ) (xs : List Block) → AreOpen d n xs → ((b : ℕ) (x : Block) → length (opening d n).states ≡ n) → AreReached d n xs
+pub open_reached : (d : Draft) (n : ℕ) (xs : List Block) → AreOpen d n xs → ((b : ℕ) (x : Block) → length (initial_state d n).states ≡ n) → AreReached d n xs
 open_reached d n xs opened many b x at =
-    let is : x.atomic ≡ opening d n = ap (λ (z : Block). z.atomic) (opened b x at) in
+    let is : x.atomic ≡ initial_state d n = ap (λ (z : Block). z.atomic) (opened b x at) in
     (([], tt, is), ap (λ (a : State). length a.states) is ∙ many b x)
 
 -- the texts of blocks whose steps are these

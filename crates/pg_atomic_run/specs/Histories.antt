@@ -6,7 +6,7 @@ use Rattle.pg_perm.specs.declared.draft.Draft.{Draft}
 use Rattle.pg_script.specs.declared.script.ScriptOp.{ScriptOp}
 use Rattle.pg_script.specs.Scripts.{Operations}
 use Rattle.pg_history.specs.HistoryText.{block_text}
-use Rattle.pg_atomic.specs.States.{opening}
+use Rattle.pg_atomic.specs.States.{initial_state}
 use Rattle.pg_atomic.specs.Scripts.{steps_of}
 
 -- the operations on a block, each with its core, in the order of their lines
@@ -15,7 +15,7 @@ ops_on ops b = map (λ o. (o.core, o.op)) (filter (λ o. o.block == b) ops)
 
 -- the steps of the operations on a block, one after another
 abbrev pub block_steps : Draft → Operations → ℕ → List Step
-block_steps d s b = steps_of d (opening d s.cores) (ops_on s.ops b)
+block_steps d s b = steps_of d (initial_state d s.cores) (ops_on s.ops b)
 
 -- the texts of k blocks, of which the first has number b
 abbrev pub block_texts : (ℕ → List Step) → ℕ → ℕ → List ℕ

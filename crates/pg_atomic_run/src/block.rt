@@ -22,7 +22,7 @@ impl Block {
     pub fn new(alloc: Global, protocol: &Protocol, cores: u32) -> Result<Block, AllocError>
         requires some { 1 ≤ cores }
         requires few { cores ≤ 64 }
-        ensures opens { IfOk result (λ x. x ≡ record { atomic = states.opening protocol.now cores; steps = [] }) }
+        ensures opens { IfOk result (λ x. x ≡ record { atomic = states.initial_state protocol.now cores; steps = [] }) }
         ensures reached { IfOk result (λ x. steps.IsReached protocol.now cores x.atomic) }
     {
         Ok(Block {
@@ -35,8 +35,8 @@ impl Block {
     fn transact(&mut self, protocol: &Protocol, core: u32, event: Event) -> Result<(), AllocError>
         requires core { core < length self.old.atomic.states }
         requires reached { steps.IsReached protocol.now (length self.old.atomic.states) self.old.atomic }
-        requires needs { steps.needs protocol.now (states.state_of self.old.atomic core) event ≡ true }
-        ensures step { IfOk result (λ _. self.new ≡ blocks.after_step protocol.now (step.Txn core event) self.old) }
+        requires needs { steps.needs_transaction protocol.now (states.state_of self.old.atomic core) event ≡ true }
+        ensures step { IfOk result (λ _. self.new ≡ blocks.block_after_step protocol.now (step.Txn core event) self.old) }
         ensures reached { steps.IsReached protocol.now (length self.old.atomic.states) self.new.atomic }
         ensures cores { length self.new.atomic.states ≡ length self.old.atomic.states }
         ensures permits { event ≢ Event.Evict → steps.may protocol.now (states.state_of self.new.atomic core) event ≡ true }
@@ -50,7 +50,7 @@ impl Block {
         requires core { core < length self.old.atomic.states }
         requires reached { steps.IsReached protocol.now (length self.old.atomic.states) self.old.atomic }
         requires may { steps.may protocol.now (states.state_of self.old.atomic core) (accesses.event_of access) ≡ true }
-        ensures step { IfOk result (λ _. self.new ≡ blocks.after_step protocol.now (accesses.step_of core (accesses.word_of self.old.atomic access) access) self.old) }
+        ensures step { IfOk result (λ _. self.new ≡ blocks.block_after_step protocol.now (accesses.step_of core (accesses.word_of self.old.atomic access) access) self.old) }
         ensures reached { steps.IsReached protocol.now (length self.old.atomic.states) self.new.atomic }
     {
         let word = self.atomic.access(protocol, core, access);
@@ -63,7 +63,7 @@ impl Block {
     fn load(&mut self, protocol: &Protocol, core: u32) -> Result<(), AllocError>
         requires core { core < length self.old.atomic.states }
         requires reached { steps.IsReached protocol.now (length self.old.atomic.states) self.old.atomic }
-        ensures step { IfOk result (λ _. self.new ≡ blocks.after_op protocol.now core op.Load self.old) }
+        ensures step { IfOk result (λ _. self.new ≡ blocks.block_after_op protocol.now core op.Load self.old) }
         ensures reached { steps.IsReached protocol.now (length self.old.atomic.states) self.new.atomic }
     {
         if !self.atomic.may(protocol, core, Event::Load) {
@@ -75,7 +75,7 @@ impl Block {
     fn store(&mut self, protocol: &Protocol, core: u32, value: u32) -> Result<(), AllocError>
         requires core { core < length self.old.atomic.states }
         requires reached { steps.IsReached protocol.now (length self.old.atomic.states) self.old.atomic }
-        ensures step { IfOk result (λ _. self.new ≡ blocks.after_op protocol.now core (op.Store value) self.old) }
+        ensures step { IfOk result (λ _. self.new ≡ blocks.block_after_op protocol.now core (op.Store value) self.old) }
         ensures reached { steps.IsReached protocol.now (length self.old.atomic.states) self.new.atomic }
     {
         if !self.atomic.may(protocol, core, Event::Store) {
@@ -87,7 +87,7 @@ impl Block {
     fn evict(&mut self, protocol: &Protocol, core: u32) -> Result<(), AllocError>
         requires core { core < length self.old.atomic.states }
         requires reached { steps.IsReached protocol.now (length self.old.atomic.states) self.old.atomic }
-        ensures step { IfOk result (λ _. self.new ≡ blocks.after_op protocol.now core op.Evict self.old) }
+        ensures step { IfOk result (λ _. self.new ≡ blocks.block_after_op protocol.now core op.Evict self.old) }
         ensures reached { steps.IsReached protocol.now (length self.old.atomic.states) self.new.atomic }
     {
         if self.atomic.may(protocol, core, Event::Evict) {
@@ -100,7 +100,7 @@ impl Block {
     pub fn perform(&mut self, protocol: &Protocol, core: u32, op: Op) -> Result<(), AllocError>
         requires core { core < length self.old.atomic.states }
         requires reached { steps.IsReached protocol.now (length self.old.atomic.states) self.old.atomic }
-        ensures step { IfOk result (λ _. self.new ≡ blocks.after_op protocol.now core op self.old) }
+        ensures step { IfOk result (λ _. self.new ≡ blocks.block_after_op protocol.now core op self.old) }
         ensures reached { steps.IsReached protocol.now (length self.old.atomic.states) self.new.atomic }
     {
         match op {

@@ -40,7 +40,7 @@ fn perform_all(
     requires reached { state.AreReached protocol.now cores blocks.old.items }
     requires inside { list_all (is_inside cores (length blocks.old.items)) ops.now ≡ true }
     ensures many { IfOk result (λ _. length blocks.new.items ≡ length blocks.old.items) }
-    ensures taken { (all : ℕ → List Step) → state.AreAt protocol.now all ops.now blocks.old.items → IfOk result (λ _. state.AreAt protocol.now all [] blocks.new.items) }
+    ensures taken { (all : ℕ → List Step) → state.AreStepsSoFar protocol.now all ops.now blocks.old.items → IfOk result (λ _. state.AreStepsSoFar protocol.now all [] blocks.new.items) }
 {
     let mut left = ops;
     while let Some((op, rest)) = left.split_first() {

@@ -29,7 +29,7 @@ use Rattle.pg_forms.specs.declared.line.CoreShape.TheVariants.{Hit, Ask, Leave}
 use Rattle.pg_forms.specs.declared.line.RowShape.{RowShape}
 use Rattle.pg_forms.specs.declared.line.RowShape.TheVariants as row
 use Rattle.pg_perm.specs.Classes.{is_request, is_forward, is_reply}
-use Rattle.pg_perm.specs.Drafts.{cache_names, dir_names, message_names, taken_names, rule_lines}
+use Rattle.pg_perm.specs.Drafts.{cache_names, dir_names, message_names, taken_names, rule_line_count}
 use Rattle.pg_forms.specs.Reading.{◌>>=◌}
 
 -- the number of a cache state that is declared
@@ -66,7 +66,7 @@ pairs_of d (p ∷ ps) = do
   more ← pairs_of d ps
   Some (pair ∷ more)
 
--- what stands behind the event of a core line, in numbers
+-- what stands after the event of a core line, in numbers
 unfoldable pub core_form : Draft → CoreShape → Option CoreForm
 core_form d (Hit None) = Some (form.Hit None)
 core_form d (Hit (Some w)) = do
@@ -137,7 +137,7 @@ action_of d w = if bytes_eq w (codes "count") then Some action.Count else do
   m ← slice_get d.messages n
   action_by_class n m.class
 
--- what stands behind the state of a row line, in numbers
+-- what stands after the state of a row line, in numbers
 unfoldable pub row_form : Draft → RowShape → Option RowForm
 row_form d (row.Ask w sender a) = do
   request ← message_number is_request d w
@@ -186,9 +186,9 @@ is_full d (Protocol name) = false
 is_full d (Cache name role perm clean) = nat_le 16 (length d.caches)
 is_full d (Dir name kind beside) = nat_le 16 (length d.dirs)
 is_full d (Message name class) = nat_le 32 (length d.messages)
-is_full d (Core state event shape) = nat_le 512 (rule_lines d)
-is_full d (Take state forward reply next) = nat_le 512 (rule_lines d)
-is_full d (Row dir shape next) = nat_le 512 (rule_lines d)
+is_full d (Core state event shape) = nat_le 512 (rule_line_count d)
+is_full d (Take state forward reply next) = nat_le 512 (rule_line_count d)
+is_full d (Row dir shape next) = nat_le 512 (rule_line_count d)
 is_full d End = false
 
 -- the draft of no lines; the protocol line gives it a line and a name
@@ -196,10 +196,10 @@ abbrev pub no_draft : Draft
 no_draft = record { line = 0; name = codes "none"; caches = []; dirs = []; messages = []; cores = []; takes = []; rows = [] }
 
 -- a draft that is there is one that a line adds to, where there aren't as many lines of its kind as there may be
-abbrev pub within : Option Draft → Bool → Result Draft Rule
-within None is_over = Err F4
-within (Some more) is_over = if is_over then Err F5 else Ok more
+abbrev pub draft_within_limits : Option Draft → Bool → Result Draft Rule
+draft_within_limits None is_over = Err F4
+draft_within_limits (Some more) is_over = if is_over then Err F5 else Ok more
 
 -- the draft with line n, or the first of the rules F3 to F5 that the line breaks
-abbrev pub declared : Draft → ℕ → Line → Result Draft Rule
-declared d n l = if is_taken d l then Err F3 else within (with_line d n l) (is_full d l)
+abbrev pub draft_with_line : Draft → ℕ → Line → Result Draft Rule
+draft_with_line d n l = if is_taken d l then Err F3 else draft_within_limits (with_line d n l) (is_full d l)

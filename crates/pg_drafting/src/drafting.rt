@@ -1,9 +1,9 @@
 ghost use Rattle.std.specs.Prelude.{◌≡◌, IfOk, length, nat_le, is_some, bytes_eq, if◌then◌else◌};
 ghost use Rattle.std.specs.List.{list_any};
 ghost use Rattle.pg_perm.specs.Classes.{is_request, is_forward, is_reply};
-ghost use Rattle.pg_perm.specs.Drafts.{taken_names, rule_lines};
+ghost use Rattle.pg_perm.specs.Drafts.{taken_names, rule_line_count};
 ghost use Rattle.pg_drafting.specs.Numbering as draft;
-ghost use Rattle.pg_drafting.specs.Numbering.{no_draft, within, declared};
+ghost use Rattle.pg_drafting.specs.Numbering.{no_draft, draft_within_limits, draft_with_line};
 
 use crate::named::NamedLines;
 use pg_faults::LineError;
@@ -144,7 +144,7 @@ impl Drafting {
         Ok(Some(pairs))
     }
 
-    /// What stands behind the event of a core line in numbers, or none where a name isn't declared.
+    /// What stands after the event of a core line in numbers, or none where a name isn't declared.
     #[tactic(auto, unfolding(crate::specs::Numbering::core_form))]
     fn core_form(&self, alloc: Global, shape: &CoreShape) -> Result<Option<CoreForm>, AllocError>
         ensures { IfOk result (λ form. form ≡ draft.core_form (draft_of self.now) shape.now) }
@@ -222,7 +222,7 @@ impl Drafting {
         }
     }
 
-    /// What stands behind the state of a row line in numbers, or none where a name isn't declared.
+    /// What stands after the state of a row line in numbers, or none where a name isn't declared.
     #[tactic(auto, unfolding(crate::specs::Numbering::row_form))]
     fn row_form(&self, shape: &RowShape) -> Option<RowForm>
         ensures { result ≡ draft.row_form (draft_of self.now) shape.now }
@@ -250,7 +250,7 @@ impl Drafting {
 
     fn declare_protocol(&mut self, number: u32, name: Word) -> Result<(), LineError<Rule>>
         ensures { Drafts self.new result
-            (declared (draft_of self.old) number (Line.Protocol name)) }
+            (draft_with_line (draft_of self.old) number (Line.Protocol name)) }
     {
         self.line = number;
         self.name = name;
@@ -258,7 +258,7 @@ impl Drafting {
     }
 
     fn declare_cache(&mut self, cache: CacheLine) -> Result<(), LineError<Rule>>
-        ensures { Drafts self.new result (declared (draft_of self.old) cache.line
+        ensures { Drafts self.new result (draft_with_line (draft_of self.old) cache.line
             (Line.Cache cache.name cache.role cache.perm cache.clean)) }
     {
         if self.caches.declares(&cache.name) {
@@ -272,7 +272,7 @@ impl Drafting {
     }
 
     fn declare_message(&mut self, message: MsgLine) -> Result<(), LineError<Rule>>
-        ensures { Drafts self.new result (declared (draft_of self.old) message.line
+        ensures { Drafts self.new result (draft_with_line (draft_of self.old) message.line
             (Line.Message message.name message.class)) }
     {
         if is_taken_name(message.name.bytes()) || self.messages.declares(&message.name) {
@@ -315,7 +315,7 @@ impl Drafting {
     /// Puts a core line last, or none for one that uses a name which isn't declared.
     fn put_core(&mut self, core: Option<CoreLine>) -> Result<(), LineError<Rule>>
         ensures { let d = draft_of self.old in
-            Drafts self.new result (within (draft.put_core d core) (nat_le 512 (rule_lines d))) }
+            Drafts self.new result (draft_within_limits (draft.put_core d core) (nat_le 512 (rule_line_count d))) }
     {
         let Some(core) = core else {
             return Err(LineError::Breaks(Rule::F4));
@@ -336,7 +336,7 @@ impl Drafting {
         shape: CoreShape,
     ) -> Result<(), LineError<Rule>>
         ensures { Drafts self.new result
-            (declared (draft_of self.old) number (Line.Core state event shape.entry)) }
+            (draft_with_line (draft_of self.old) number (Line.Core state event shape.entry)) }
     {
         let core = self.core(alloc, number, &state, event, &shape)?;
         self.put_core(core)
@@ -352,7 +352,7 @@ impl Drafting {
     ) -> Result<(), LineError<Rule>>
         ensures { let d = draft_of self.old in
             Drafts self.new result (if is_some (draft.dir_number d name) then Err Rule.F3
-            else within (draft.put_dir d number name kind beside) (nat_le 16 (length d.dirs))) }
+            else draft_within_limits (draft.put_dir d number name kind beside) (nat_le 16 (length d.dirs))) }
     {
         if self.dirs.declares(&name) {
             return Err(LineError::Breaks(Rule::F3));
@@ -381,7 +381,7 @@ impl Drafting {
         names: StateNames,
     ) -> Result<(), LineError<Rule>>
         ensures { Drafts self.new result
-            (declared (draft_of self.old) number (Line.Dir name kind names.entry)) }
+            (draft_with_line (draft_of self.old) number (Line.Dir name kind names.entry)) }
     {
         let beside = self.states(alloc, &names)?;
         self.put_dir(number, name, kind, beside)
@@ -416,7 +416,7 @@ impl Drafting {
     /// Puts a take line last, or none for one that uses a name which isn't declared.
     fn put_take(&mut self, take: Option<TakeLine>) -> Result<(), LineError<Rule>>
         ensures { let d = draft_of self.old in
-            Drafts self.new result (within (draft.put_take d take) (nat_le 512 (rule_lines d))) }
+            Drafts self.new result (draft_within_limits (draft.put_take d take) (nat_le 512 (rule_line_count d))) }
     {
         let Some(take) = take else {
             return Err(LineError::Breaks(Rule::F4));
@@ -447,7 +447,7 @@ impl Drafting {
     /// Puts a row line last, or none for one that uses a name which isn't declared.
     fn put_row(&mut self, row: Option<RowLine>) -> Result<(), LineError<Rule>>
         ensures { let d = draft_of self.old in
-            Drafts self.new result (within (draft.put_row d row) (nat_le 512 (rule_lines d))) }
+            Drafts self.new result (draft_within_limits (draft.put_row d row) (nat_le 512 (rule_line_count d))) }
     {
         let Some(row) = row else {
             return Err(LineError::Breaks(Rule::F4));
@@ -461,7 +461,7 @@ impl Drafting {
 
     /// Whether there are as many core, take and row lines as there may be.
     fn has_all_rules(&self) -> bool
-        ensures { result ≡ nat_le 512 (rule_lines (draft_of self.now)) }
+        ensures { result ≡ nat_le 512 (rule_line_count (draft_of self.now)) }
     {
         let count = self.cores.len().saturating_add(self.takes.len());
         count.saturating_add(self.rows.len()) >= RULE_LIMIT
@@ -475,7 +475,7 @@ impl Drafting {
         number: u32,
         line: Line,
     ) -> Result<(), LineError<Rule>>
-        ensures { Drafts self.new result (declared (draft_of self.old) number line.entry) }
+        ensures { Drafts self.new result (draft_with_line (draft_of self.old) number line.entry) }
     {
         match line {
             Line::Protocol { name } => self.declare_protocol(number, name),

@@ -6,7 +6,7 @@ use Rattle.pg_perm.specs.declared.fault.Rule.{Rule}
 use Rattle.pg_perm.specs.Rules.{rule_rank, IsNoLater}
 use Rattle.pg_perm.proofs.Ranks.{same_fault}
 use Rattle.pg_faults.specs.FirstFaults.{IsFirst, IsClean, AreClean, IsFirstFault}
-use Rattle.pg_faults.specs.LineRules.{LineRules, BreaksPast, BreaksIn, kept_to_end, finished, read_on, read_lines, IsExact}
+use Rattle.pg_faults.specs.LineRules.{LineRules, BreaksPast, BreaksIn, kept_to_end, reading_at_end, read_on, read_lines, IsExact}
 
 -- one failure has one reason
 pub same_err : {A E : Type 0} (x y : E) → ◌≡◌ {A = Result A E} (Err x) (Err y) → x ≡ y
@@ -35,7 +35,7 @@ past_at (Some Q) n (line ∷ lines) L R b = b.0
 
 -- the fault that is found after the end line is the first there
 past_fault : {Y : Type 0} (past : Option Rule) (n : ℕ) (whole : Y) (lines : List (List ℕ)) (f : Fault)
-    → finished past n whole lines ≡ Err f → IsFirstFault (BreaksPast past (n + 1) lines) f
+    → reading_at_end past n whole lines ≡ Err f → IsFirstFault (BreaksPast past (n + 1) lines) f
 past_fault None n whole lines f e = absurd cc
 past_fault (Some Q) n whole [] f e = absurd cc
 past_fault (Some Q) n whole (line ∷ lines) f e =
@@ -45,7 +45,7 @@ past_fault (Some Q) n whole (line ∷ lines) f e =
 
 -- where none is found there, none is broken
 past_whole : {Y : Type 0} (past : Option Rule) (n : ℕ) (whole : Y) (lines : List (List ℕ)) (y : Y)
-    → finished past n whole lines ≡ Ok y
+    → reading_at_end past n whole lines ≡ Ok y
     → AreClean (BreaksPast past (n + 1) lines) × (whole ≡ y)
 past_whole None n whole lines y e = (λ L R b. b, same_ok whole y e)
 past_whole (Some Q) n whole [] y e = (λ L R b. b, same_ok whole y e)

@@ -37,16 +37,16 @@ kept_to_end rules above n (line ∷ lines) = if rules.ends line then (rules.afte
     else kept_to_end rules (rules.after above n line) (n + 1) lines
 
 -- what is read of lines whose end line is line n, with these after it
-abbrev pub finished : {Y : Type 0} → Option Rule → ℕ → Y → List (List ℕ) → Result Y Fault
-finished None n whole lines = Ok whole
-finished (Some Q) n whole [] = Ok whole
-finished (Some Q) n whole (line ∷ lines) = Err (record { line = n + 1; rule = Q })
+abbrev pub reading_at_end : {Y : Type 0} → Option Rule → ℕ → Y → List (List ℕ) → Result Y Fault
+reading_at_end None n whole lines = Ok whole
+reading_at_end (Some Q) n whole [] = Ok whole
+reading_at_end (Some Q) n whole (line ∷ lines) = Err (record { line = n + 1; rule = Q })
 
 -- what reading gives once line n was judged
 abbrev pub read_on : {S Y : Type 0} → Option Rule → (S → ℕ → Y) → ℕ → Bool → Result S Rule
     → List (List ℕ) → (S → Result Y Fault) → Result Y Fault
 read_on past gist n is_last (Err R) lines go_on = Err (record { line = n; rule = R })
-read_on past gist n true (Ok above) lines go_on = finished past n (gist above n) lines
+read_on past gist n true (Ok above) lines go_on = reading_at_end past n (gist above n) lines
 read_on past gist n false (Ok above) lines go_on = go_on above
 
 -- the gist of the lines from line n on, below others, each of which is judged in turn; or the first

@@ -24,9 +24,9 @@ tested P true o p y first other e = first refl e
 tested P false o p y first other e = other e
 
 -- the same of a test for a word
-pub told : {A : Type 0} (P : A → Type 0) (w s : List ℕ) (o p : Option A) (y : A) → (w ≡ s → o ≡ Some y → P y) → (p ≡ Some y → P y)
+pub word_test_some : {A : Type 0} (P : A → Type 0) (w s : List ℕ) (o p : Option A) (y : A) → (w ≡ s → o ≡ Some y → P y) → (p ≡ Some y → P y)
     → cond (bytes_eq w s) o p ≡ Some y → P y
-told P w s o p y first other e = tested P (bytes_eq w s) o p y (λ t. first (same_word w s t)) other e
+word_test_some P w s o p y first other e = tested P (bytes_eq w s) o p y (λ t. first (same_word w s t)) other e
 
 -- words that differ fail the test
 pub other_word : (w s : List ℕ) → w ≢ s → bytes_eq w s ≡ false
@@ -58,6 +58,6 @@ pub same_ok : {A E : Type 0} (x y : A) → ◌≡◌ {A = Result A E} (Ok x) (Ok
 same_ok x y e = cc
 
 -- what follows from the value that a map met
-pub mapped : {A B P : Type 0} (f : A → B) (o : Option A) (y : B) → option_map f o ≡ Some y → ((x : A) → o ≡ Some x → f x ≡ y → P) → P
-mapped f None y e g = absurd cc
-mapped f (Some x) y e g = g x refl (same_Some (f x) y e)
+pub option_map-some : {A B P : Type 0} (f : A → B) (o : Option A) (y : B) → option_map f o ≡ Some y → ((x : A) → o ≡ Some x → f x ≡ y → P) → P
+option_map-some f None y e g = absurd cc
+option_map-some f (Some x) y e g = g x refl (same_Some (f x) y e)

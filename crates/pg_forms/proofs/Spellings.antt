@@ -29,10 +29,10 @@ use Rattle.pg_lines.specs.Lines.{first_rest}
 use Rattle.pg_forms.specs.Forms.{shape_words, spelling, IsShapeOf, IsRowShape, IsWellNamed}
 use Rattle.std.specs.List.{list_all}
 use Rattle.pg_forms.specs.Pairs.{are_pairs, pairs_in, words_in, is_named_pair}
-use Rattle.pg_forms.specs.Reading.{name_at, state_at, ended, protocol_line, clean_of}
+use Rattle.pg_forms.specs.Reading.{name_at, state_at, no_words_left, protocol_line, clean_of}
 use Rattle.pg_forms.specs.Reading.{cache_line, dir_line, request_line, forward_line, reply_line, asking_shape, leaving_shape, shape_of, core_line}
-use Rattle.pg_forms.specs.Reading.{take_line_end, take_line, asking_row, evicting_row, row_shape, row_line, end_line, line_after, line_of}
-use Rattle.pg_forms.proofs.Options.{then_some, told, told_apart, same_word, other_word, nothing_found}
+use Rattle.pg_forms.specs.Reading.{take_line_end, take_line, asking_row, evicting_row, row_shape, row_line, end_line, line_by_first_word, line_of}
+use Rattle.pg_forms.proofs.Options.{then_some, word_test_some, told_apart, same_word, other_word, nothing_found}
 use Rattle.pg_lines.proofs.Firsts.{first_rest_is}
 
 -- a sender that may evict
@@ -83,7 +83,7 @@ unfolding state_at
 state_again w ws h = rw h refl
 
 -- words that have ended are none
-ended_found : (ws : List (List ℕ)) (x : Unit {0}) → ended ws ≡ Some x → ws ≡ []
+ended_found : (ws : List (List ℕ)) (x : Unit {0}) → no_words_left ws ≡ Some x → ws ≡ []
 ended_found [] x e = refl
 ended_found (w ∷ ws) x e = absurd cc
 
@@ -96,7 +96,7 @@ protocol_found : (ws : List (List ℕ)) (l : Line) → protocol_line ws ≡ Some
 unfolding protocol_line
 protocol_found ws l e =
     then_some (name_at ws) _ l e (λ name named e.
-    then_some (ended name.1) _ l e (λ end ends e.
+    then_some (no_words_left name.1) _ l e (λ end ends e.
     let n = name_found ws name named in
     subst (Spells (codes "protocol" ∷ ws)) (same_Some (Protocol name.0) l e) (cc (n.0, ended_found name.1 end ends), n.1)))
 
@@ -105,16 +105,16 @@ protocol_again : (name : List ℕ) → IsTrue (is_name name) → protocol_line (
 unfolding protocol_line
 protocol_again name h = rw (name_again name [] h) refl
 
--- the words behind the permission of a cache line
+-- the words after the permission of a cache line
 abbrev clean_words : Bool → List (List ℕ)
 clean_words true = codes "clean" ∷ []
 clean_words false = []
 
--- what is read behind the permission is spelled by its words
+-- what is read after the permission is spelled by its words
 clean_found : (ws : List (List ℕ)) (clean : Bool) → clean_of ws ≡ Some clean → ws ≡ clean_words clean
 clean_found [] clean e = ap clean_words (same_Some false clean e)
 clean_found (w ∷ []) clean e =
-    told (λ c. w ∷ [] ≡ clean_words c) w (codes "clean") _ _ clean
+    word_test_some (λ c. w ∷ [] ≡ clean_words c) w (codes "clean") _ _ clean
     (λ h g. ap (λ (v : List ℕ). v ∷ []) h ∙ ap clean_words (same_Some _ _ g)) (nothing_found clean) e
 clean_found (w ∷ v ∷ ws) clean e = absurd cc
 
@@ -148,7 +148,7 @@ cache_found ws l e =
       n.1,
     )))))))
 
--- what stands behind the permission is read again
+-- what stands after the permission is read again
 clean_again : (clean : Bool) → clean_of (clean_words clean) ≡ Some clean
 clean_again true = refl
 clean_again false = refl
@@ -185,7 +185,7 @@ request_line_found ws l e =
     then_some (name_at ws) _ l e (λ name named e.
     then_some (first_rest name.1) _ l e (λ word first e.
     then_some (find_word request_word requests word.0) _ l e (λ class is_class e.
-    then_some (ended word.1) _ l e (λ end ends e.
+    then_some (no_words_left word.1) _ l e (λ end ends e.
     let n = name_found ws name named in
     subst (Spells (codes "request" ∷ ws)) (same_Some (Message name.0 (Request class)) l e)
     (cc (n.0, first_rest_is name.1 word.0 word.1 (sym first), word_found request_word requests word.0 class is_class, ended_found word.1 end ends), n.1)))))
@@ -203,7 +203,7 @@ forward_line_found ws l e =
     then_some (name_at ws) _ l e (λ name named e.
     then_some (first_rest name.1) _ l e (λ word first e.
     then_some (find_word forward_word forwards word.0) _ l e (λ class is_class e.
-    then_some (ended word.1) _ l e (λ end ends e.
+    then_some (no_words_left word.1) _ l e (λ end ends e.
     let n = name_found ws name named in
     subst (Spells (codes "forward" ∷ ws)) (same_Some (Message name.0 (Forward class)) l e)
     (cc (n.0, first_rest_is name.1 word.0 word.1 (sym first), word_found forward_word forwards word.0 class is_class, ended_found word.1 end ends), n.1)))))
@@ -220,7 +220,7 @@ unfolding reply_line
 reply_line_found ws l e =
     then_some (name_at ws) _ l e (λ name named e.
     then_some (first_rest name.1) _ l e (λ word first e.
-    then_some (ended word.1) _ l e (λ end ends e.
+    then_some (no_words_left word.1) _ l e (λ end ends e.
     let n = name_found ws name named in
     let t = cond_some (bytes_eq word.0 (codes "data")) (Message name.0 Reply) l e in
     subst (Spells (codes "reply" ∷ ws)) t.1
@@ -251,14 +251,14 @@ pairs_again (p ∷ ps) =
     let q = pairs_again ps in
     (ap (λ (b : Bool). (is_name p.0 && is_state_name p.1) && b) q.0, ap (λ (qs : List (List ℕ × List ℕ)). p ∷ qs) q.1)
 
--- a shape that is read behind a load is spelled by its words, and is one of a load
+-- a shape that is read after a load is spelled by its words, and is one of a load
 asking_found : (ws : List (List ℕ)) (s : CoreShape) → asking_shape ws ≡ Some s → IsShape Load ws s
 asking_found [] s e = absurd cc
 asking_found (w ∷ []) s e =
-    told (IsShape Load (w ∷ [])) w (codes "hit") _ _ s
+    word_test_some (IsShape Load (w ∷ [])) w (codes "hit") _ _ s
     (λ h g. subst (IsShape Load (w ∷ [])) (same_Some (Hit None) s g) (ap (λ (v : List ℕ). v ∷ []) h, tt)) (nothing_found s) e
 asking_found (w ∷ next ∷ []) s e =
-    told (IsShape Load (w ∷ next ∷ [])) w (codes "hit") _ _ s
+    word_test_some (IsShape Load (w ∷ next ∷ [])) w (codes "hit") _ _ s
     (λ h g. let t = cond_some (is_state_name next) (Hit (Some next)) s g in
     subst (IsShape Load (w ∷ next ∷ [])) t.1 (ap (λ (v : List ℕ). v ∷ next ∷ []) h, t.0)) (nothing_found s) e
 asking_found (w ∷ reply ∷ fin ∷ more) s e =
@@ -273,16 +273,16 @@ store_as_load (Hit next) h = h
 store_as_load (Ask request pairs) h = h
 store_as_load (Leave request) h = h
 
--- a shape that is read behind an evict is spelled by its words, and is one of an evict
+-- a shape that is read after an evict is spelled by its words, and is one of an evict
 leaving_found : (ws : List (List ℕ)) (s : CoreShape) → leaving_shape ws ≡ Some s → IsShape Evict ws s
 unfolding leaving_shape
 leaving_found ws s e =
     then_some (name_at ws) _ s e (λ name named e.
-    then_some (ended name.1) _ s e (λ end ends e.
+    then_some (no_words_left name.1) _ s e (λ end ends e.
     let n = name_found ws name named in
     subst (IsShape Evict ws) (same_Some (Leave name.0) s e) (cc (n.0, ended_found name.1 end ends), n.1)))
 
--- a shape that is read behind an event is spelled by its words, and is one of that event
+-- a shape that is read after an event is spelled by its words, and is one of that event
 shape_found : (event : Event) (ws : List (List ℕ)) (s : CoreShape) → shape_of event ws ≡ Some s → IsShape event ws s
 shape_found Load ws s e = asking_found ws s e
 shape_found Store ws s e = let a = asking_found ws s e in (a.0, store_as_load s a.1)
@@ -333,7 +333,7 @@ unfolding core_line
 core_again state event shape h g =
     rw (state_again state (event_word event ∷ shape_words shape) h, word_again event_word events refl event (events_listed event), shape_again event shape g) refl
 
--- what is read behind the forward of a take line is spelled by its words
+-- what is read after the forward of a take line is spelled by its words
 take_end_found : (state forward : List ℕ) (ws : List (List ℕ)) (l : Line) → IsTrue (is_state_name state) → IsTrue (is_name forward)
     → take_line_end state forward ws ≡ Some l → Spells (codes "take" ∷ state ∷ forward ∷ ws) l
 take_end_found state forward [] l h g e = absurd cc
@@ -357,7 +357,7 @@ take_found ws l e =
     let p = take_end_found state.0 forward.0 forward.1 l n.1 f.1 e in
     (cc (n.0, f.0, p.0), p.1)))
 
--- the words of a take line behind its forward
+-- the words of a take line after its forward
 abbrev take_words : Option (List ℕ) → List ℕ → List (List ℕ)
 take_words None next = next ∷ []
 take_words (Some reply) next = reply ∷ next ∷ []
@@ -368,7 +368,7 @@ take_spelling : (state forward : List ℕ) (reply : Option (List ℕ)) (next : L
 take_spelling state forward None next = refl
 take_spelling state forward (Some reply) next = refl
 
--- what stands behind the forward of a take line is read again
+-- what stands after the forward of a take line is read again
 take_end_again : (state forward : List ℕ) (reply : Option (List ℕ)) (next : List ℕ) → IfSome reply (λ w. IsTrue (is_name w))
     → IsTrue (is_state_name next) → take_line_end state forward (take_words reply next) ≡ Some (Take state forward reply next)
 take_end_again state forward None next h g = rw g refl
@@ -382,7 +382,7 @@ unfolding take_line
 take_again state forward reply next h g k j =
     rw (state_again state (forward ∷ take_words reply next) h, name_again forward (take_words reply next) g) (take_end_again state forward reply next k j)
 
--- the words of a row line behind its state, before others
+-- the words of a row line after its state, before others
 abbrev row_words : RowShape → List (List ℕ) → List (List ℕ)
 row_words (row.Ask request sender action) ws = request ∷ who_word sender ∷ action ∷ ws
 row_words (row.Evict sender others) ws = codes "evict" ∷ who_word sender ∷ left_word others ∷ ws
@@ -391,7 +391,7 @@ row_words (row.Evict sender others) ws = codes "evict" ∷ who_word sender ∷ l
 abbrev IsRow : List (List ℕ) → RowShape × List (List ℕ) → Type 0
 IsRow ws x = (ws ≡ row_words x.0 x.1) × IsRowShape x.0
 
--- a row that is read behind a request is spelled by its words
+-- a row that is read after a request is spelled by its words
 asking_row_found : (request : List ℕ) (ws : List (List ℕ)) (x : RowShape × List (List ℕ)) → request ≢ codes "evict"
     → asking_row request ws ≡ Some x → IsRow (request ∷ ws) x
 unfolding asking_row
@@ -404,7 +404,7 @@ asking_row_found request ws x other e =
     subst (IsRow (request ∷ ws)) t.1
     (cc (n.0, first_rest_is ws word.0 word.1 (sym first), word_found who_word senders word.0 sender is_sender), (t.0, other, n.1)))))
 
--- a row that is read behind an evict is spelled by its words
+-- a row that is read after an evict is spelled by its words
 evicting_row_found : (ws : List (List ℕ)) (x : RowShape × List (List ℕ)) → evicting_row ws ≡ Some x → IsRow (codes "evict" ∷ ws) x
 unfolding evicting_row
 evicting_row_found ws x e =
@@ -416,7 +416,7 @@ evicting_row_found ws x e =
     subst (IsRow (codes "evict" ∷ ws)) (same_Some (row.Evict sender others, b.1) x e)
     (cc (first_rest_is ws a.0 a.1 (sym first), s.0, first_rest_is a.1 b.0 b.1 (sym second), word_found left_word lefts b.0 others is_others), s.1 others)))))
 
--- a row that is read behind its state is spelled by its words
+-- a row that is read after its state is spelled by its words
 row_shape_found : (w : List ℕ) (ws : List (List ℕ)) (x : RowShape × List (List ℕ)) → row_shape w ws ≡ Some x → IsRow (w ∷ ws) x
 row_shape_found w ws x =
     told_apart (IsRow (w ∷ ws)) w (codes "evict") _ _ x
@@ -436,7 +436,7 @@ row_found ws l e =
     then_some (first_rest dir.1) _ l e (λ word first e.
     then_some (row_shape word.0 word.1) _ l e (λ shape shaped e.
     then_some (state_at shape.1) _ l e (λ next called e.
-    then_some (ended next.1) _ l e (λ end ends e.
+    then_some (no_words_left next.1) _ l e (λ end ends e.
     let d = state_found ws dir named in
     let r = row_shape_found word.0 word.1 shape shaped in
     let n = state_found shape.1 next called in
@@ -476,7 +476,7 @@ row_again dir (row.Evict sender others) next h g k =
 end_found : (ws : List (List ℕ)) (l : Line) → end_line ws ≡ Some l → Spells (codes "end" ∷ ws) l
 unfolding end_line
 end_found ws l e =
-    then_some (ended ws) _ l e (λ end ends e.
+    then_some (no_words_left ws) _ l e (λ end ends e.
     subst (Spells (codes "end" ∷ ws)) (same_Some End l e) (ap (λ (v : List (List ℕ)). codes "end" ∷ v) (ended_found ws end ends), tt))
 
 -- the spelling of the end line is read as that line
@@ -484,43 +484,43 @@ end_again : end_line [] ≡ Some End
 unfolding end_line
 end_again = refl
 
--- what is spelled behind a word is spelled behind an equal one
-behind_word : (w s : List ℕ) (ws : List (List ℕ)) (l : Line) → w ≡ s → Spells (s ∷ ws) l → Spells (w ∷ ws) l
-behind_word w s ws l h p = (ap (λ (v : List ℕ). v ∷ ws) h ∙ p.0, p.1)
+-- what is spelled after a word is spelled after an equal one
+spells_after_word : (w s : List ℕ) (ws : List (List ℕ)) (l : Line) → w ≡ s → Spells (s ∷ ws) l → Spells (w ∷ ws) l
+spells_after_word w s ws l h p = (ap (λ (v : List ℕ). v ∷ ws) h ∙ p.0, p.1)
 
--- a line that is read behind its first word is spelled by all its words
-after_found : (w : List ℕ) (ws : List (List ℕ)) (l : Line) → line_after w ws ≡ Some l → Spells (w ∷ ws) l
+-- a line that is read after its first word is spelled by all its words
+after_found : (w : List ℕ) (ws : List (List ℕ)) (l : Line) → line_by_first_word w ws ≡ Some l → Spells (w ∷ ws) l
 after_found w ws l =
-    told (Spells (w ∷ ws)) w (codes "protocol") _ _ l (λ h e. behind_word w _ ws l h (protocol_found ws l e))
-    (told (Spells (w ∷ ws)) w (codes "cache") _ _ l (λ h e. behind_word w _ ws l h (cache_found ws l e))
-    (told (Spells (w ∷ ws)) w (codes "dir") _ _ l (λ h e. behind_word w _ ws l h (dir_found ws l e))
-    (told (Spells (w ∷ ws)) w (codes "request") _ _ l (λ h e. behind_word w _ ws l h (request_line_found ws l e))
-    (told (Spells (w ∷ ws)) w (codes "forward") _ _ l (λ h e. behind_word w _ ws l h (forward_line_found ws l e))
-    (told (Spells (w ∷ ws)) w (codes "reply") _ _ l (λ h e. behind_word w _ ws l h (reply_line_found ws l e))
-    (told (Spells (w ∷ ws)) w (codes "core") _ _ l (λ h e. behind_word w _ ws l h (core_found ws l e))
-    (told (Spells (w ∷ ws)) w (codes "take") _ _ l (λ h e. behind_word w _ ws l h (take_found ws l e))
-    (told (Spells (w ∷ ws)) w (codes "row") _ _ l (λ h e. behind_word w _ ws l h (row_found ws l e))
-    (told (Spells (w ∷ ws)) w (codes "end") _ _ l (λ h e. behind_word w _ ws l h (end_found ws l e))
+    word_test_some (Spells (w ∷ ws)) w (codes "protocol") _ _ l (λ h e. spells_after_word w _ ws l h (protocol_found ws l e))
+    (word_test_some (Spells (w ∷ ws)) w (codes "cache") _ _ l (λ h e. spells_after_word w _ ws l h (cache_found ws l e))
+    (word_test_some (Spells (w ∷ ws)) w (codes "dir") _ _ l (λ h e. spells_after_word w _ ws l h (dir_found ws l e))
+    (word_test_some (Spells (w ∷ ws)) w (codes "request") _ _ l (λ h e. spells_after_word w _ ws l h (request_line_found ws l e))
+    (word_test_some (Spells (w ∷ ws)) w (codes "forward") _ _ l (λ h e. spells_after_word w _ ws l h (forward_line_found ws l e))
+    (word_test_some (Spells (w ∷ ws)) w (codes "reply") _ _ l (λ h e. spells_after_word w _ ws l h (reply_line_found ws l e))
+    (word_test_some (Spells (w ∷ ws)) w (codes "core") _ _ l (λ h e. spells_after_word w _ ws l h (core_found ws l e))
+    (word_test_some (Spells (w ∷ ws)) w (codes "take") _ _ l (λ h e. spells_after_word w _ ws l h (take_found ws l e))
+    (word_test_some (Spells (w ∷ ws)) w (codes "row") _ _ l (λ h e. spells_after_word w _ ws l h (row_found ws l e))
+    (word_test_some (Spells (w ∷ ws)) w (codes "end") _ _ l (λ h e. spells_after_word w _ ws l h (end_found ws l e))
     (nothing_found l))))))))))
 
 -- what is read is spelled so
-pub found : (ws : List (List ℕ)) (l : Line) → line_of ws ≡ Some l → (ws ≡ spelling l) × IsWellNamed l
+pub line_of-some : (ws : List (List ℕ)) (l : Line) → line_of ws ≡ Some l → (ws ≡ spelling l) × IsWellNamed l
 unfolding line_of
-found ws l e =
+line_of-some ws l e =
     then_some (first_rest ws) _ l e (λ w first e.
     let p = after_found w.0 w.1 l e in
     (first_rest_is ws w.0 w.1 (sym first) ∙ p.0, p.1))
 
 -- what is spelled so is read
-pub spelled : (l : Line) → IsWellNamed l → line_of (spelling l) ≡ Some l
+pub line_of-spelling : (l : Line) → IsWellNamed l → line_of (spelling l) ≡ Some l
 unfolding line_of
-spelled (Protocol name) h = protocol_again name h
-spelled (Cache name role perm clean) h = ap line_of (cache_spelling name role perm clean) ∙ cache_again name role perm clean h
-spelled (Dir name kind beside) h = dir_again name kind beside h.0 h.1
-spelled (Message name (Request class)) h = request_line_again name class h
-spelled (Message name (Forward class)) h = forward_line_again name class h
-spelled (Message name Reply) h = reply_line_again name h
-spelled (Core state event shape) h = core_again state event shape h.0 h.1
-spelled (Take state forward reply next) h = ap line_of (take_spelling state forward reply next) ∙ take_again state forward reply next h.0 h.1 h.2 h.3
-spelled (Row dir shape next) h = ap line_of (row_spelling dir shape next) ∙ row_again dir shape next h.0 h.1 h.2
-spelled End h = end_again
+line_of-spelling (Protocol name) h = protocol_again name h
+line_of-spelling (Cache name role perm clean) h = ap line_of (cache_spelling name role perm clean) ∙ cache_again name role perm clean h
+line_of-spelling (Dir name kind beside) h = dir_again name kind beside h.0 h.1
+line_of-spelling (Message name (Request class)) h = request_line_again name class h
+line_of-spelling (Message name (Forward class)) h = forward_line_again name class h
+line_of-spelling (Message name Reply) h = reply_line_again name h
+line_of-spelling (Core state event shape) h = core_again state event shape h.0 h.1
+line_of-spelling (Take state forward reply next) h = ap line_of (take_spelling state forward reply next) ∙ take_again state forward reply next h.0 h.1 h.2 h.3
+line_of-spelling (Row dir shape next) h = ap line_of (row_spelling dir shape next) ∙ row_again dir shape next h.0 h.1 h.2
+line_of-spelling End h = end_again

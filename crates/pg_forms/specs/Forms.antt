@@ -14,7 +14,7 @@ use Rattle.pg_forms.specs.declared.line.RowShape.TheVariants as row
 use Rattle.pg_forms.specs.declared.line.CoreShape.{CoreShape}
 use Rattle.pg_forms.specs.declared.line.CoreShape.TheVariants.{Hit, Ask, Leave}
 
--- the words of a line behind its event
+-- the words of a line after its event
 abbrev pub shape_words : CoreShape → List (List ℕ)
 shape_words (Hit None) = codes "hit" ∷ []
 shape_words (Hit (Some next)) = codes "hit" ∷ next ∷ []

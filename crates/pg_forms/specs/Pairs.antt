@@ -22,7 +22,7 @@ words_in (p ∷ ps) = p.0 ∷ p.1 ∷ words_in ps
 abbrev pub is_named_pair : List ℕ × List ℕ → Bool
 is_named_pair p = is_name p.0 && is_state_name p.1
 
--- the first pair, and the pairs behind it
+-- the first pair, and the pairs after it
 abbrev pub first_pair : List (List ℕ × List ℕ) → Option (List ℕ × List ℕ × List (List ℕ × List ℕ))
 first_pair [] = None
 first_pair (p ∷ ps) = Some (p.0, p.1, ps)

@@ -22,27 +22,27 @@ abbrev pub ◌>>=◌ : {A B : Type 0} → Option A → (A → Option B) → Opti
 None >>= f = None
 (Some x) >>= f = f x
 
--- the first word where it is a name, and the words behind it
+-- the first word where it is a name, and the words after it
 unfoldable pub name_at : List (List ℕ) → Option (List ℕ × List (List ℕ))
 name_at ws = do
   w ← first_rest ws
   if is_name w.0 then Some w else None
 
--- the first word where it is the name of a state, and the words behind it
+-- the first word where it is the name of a state, and the words after it
 unfoldable pub state_at : List (List ℕ) → Option (List ℕ × List (List ℕ))
 state_at ws = do
   w ← first_rest ws
   if is_state_name w.0 then Some w else None
 
 -- nothing, where no word is left
-abbrev pub ended : List (List ℕ) → Option (Unit {0})
-ended [] = Some tt
-ended (w ∷ ws) = None
+abbrev pub no_words_left : List (List ℕ) → Option (Unit {0})
+no_words_left [] = Some tt
+no_words_left (w ∷ ws) = None
 
 unfoldable pub protocol_line : List (List ℕ) → Option Line
 protocol_line ws = do
   name ← name_at ws
-  end ← ended name.1
+  end ← no_words_left name.1
   Some (Protocol name.0)
 
 -- whether `clean` is all that is left, or nothing is
@@ -73,7 +73,7 @@ forward_line ws = do
   name ← name_at ws
   word ← first_rest name.1
   class ← find_word forward_word forwards word.0
-  end ← ended word.1
+  end ← no_words_left word.1
   Some (Message name.0 (Forward class))
 
 unfoldable pub request_line : List (List ℕ) → Option Line
@@ -81,14 +81,14 @@ request_line ws = do
   name ← name_at ws
   word ← first_rest name.1
   class ← find_word request_word requests word.0
-  end ← ended word.1
+  end ← no_words_left word.1
   Some (Message name.0 (Request class))
 
 unfoldable pub reply_line : List (List ℕ) → Option Line
 reply_line ws = do
   name ← name_at ws
   word ← first_rest name.1
-  end ← ended word.1
+  end ← no_words_left word.1
   if bytes_eq word.0 (codes "data") then Some (Message name.0 Reply) else None
 
 -- `hit`, and perhaps a state
@@ -100,18 +100,18 @@ hit_shape w (Some next) = if bytes_eq w (codes "hit") then (if is_state_name nex
 abbrev pub ask_shape : List ℕ → List (List ℕ) → Option CoreShape
 ask_shape w ws = if is_name w && are_pairs ws then Some (Ask w (pairs_in ws)) else None
 
--- what stands behind `load` or `store`
+-- what stands after `load` or `store`
 abbrev pub asking_shape : List (List ℕ) → Option CoreShape
 asking_shape [] = None
 asking_shape (w ∷ []) = hit_shape w None
 asking_shape (w ∷ next ∷ []) = hit_shape w (Some next)
 asking_shape (w ∷ reply ∷ fin ∷ more) = ask_shape w (reply ∷ fin ∷ more)
 
--- what stands behind `evict`
+-- what stands after `evict`
 unfoldable pub leaving_shape : List (List ℕ) → Option CoreShape
 leaving_shape ws = do
   request ← name_at ws
-  end ← ended request.1
+  end ← no_words_left request.1
   Some (Leave request.0)
 
 abbrev pub shape_of : Event → List (List ℕ) → Option CoreShape
@@ -147,7 +147,7 @@ take_line ws = do
   forward ← name_at state.1
   take_line_end state.0 forward.0 forward.1
 
--- who sends a request and what is done about it, and the words behind that
+-- who sends a request and what is done about it, and the words after that
 unfoldable pub asking_row : List ℕ → List (List ℕ) → Option (RowShape × List (List ℕ))
 asking_row request ws = do
   word ← first_rest ws
@@ -155,7 +155,7 @@ asking_row request ws = do
   action ← name_at word.1
   if is_name request then Some (row.Ask request sender action.0, action.1) else None
 
--- who evicts and whether sharers are left, and the words behind that
+-- who evicts and whether sharers are left, and the words after that
 unfoldable pub evicting_row : List (List ℕ) → Option (RowShape × List (List ℕ))
 evicting_row ws = do
   word ← first_rest ws
@@ -174,17 +174,17 @@ row_line ws = do
   word ← first_rest dir.1
   shape ← row_shape word.0 word.1
   next ← state_at shape.1
-  end ← ended next.1
+  end ← no_words_left next.1
   Some (Row dir.0 shape.0 next.0)
 
 unfoldable pub end_line : List (List ℕ) → Option Line
 end_line ws = do
-  end ← ended ws
+  end ← no_words_left ws
   Some End
 
 -- the line whose first word is w, and whose other words are ws
-abbrev pub line_after : List ℕ → List (List ℕ) → Option Line
-line_after w ws = if bytes_eq w (codes "protocol") then protocol_line ws
+abbrev pub line_by_first_word : List ℕ → List (List ℕ) → Option Line
+line_by_first_word w ws = if bytes_eq w (codes "protocol") then protocol_line ws
     else if bytes_eq w (codes "cache") then cache_line ws
     else if bytes_eq w (codes "dir") then dir_line ws
     else if bytes_eq w (codes "request") then request_line ws
@@ -200,4 +200,4 @@ line_after w ws = if bytes_eq w (codes "protocol") then protocol_line ws
 unfoldable pub line_of : List (List ℕ) → Option Line
 line_of ws = do
   w ← first_rest ws
-  line_after w.0 w.1
+  line_by_first_word w.0 w.1

@@ -45,7 +45,7 @@ pub enum Line<'a> {
     End,
 }
 
-/// What stands behind the event of a core line.
+/// What stands after the event of a core line.
 #[derive(Debug, Drop)]
 pub enum CoreShape<'a> {
     /// `hit`, and perhaps the state that the line goes to.

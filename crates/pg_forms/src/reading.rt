@@ -35,8 +35,8 @@ fn state_at<'a>(words: &Words<'a>) -> Option<(Word, Words<'a>)>
     }
 }
 
-fn ended(words: &Words) -> Option<()>
-    ensures { result ≡ forms.ended words.now }
+fn no_words_left(words: &Words) -> Option<()>
+    ensures { result ≡ forms.no_words_left words.now }
 {
     match words.first() {
         None => Some(()),
@@ -49,7 +49,7 @@ fn protocol_line<'a>(words: &Words<'a>) -> Option<Line<'a>>
     ensures { result ≡ forms.protocol_line words.now }
 {
     let (name, rest) = name_at(words)?;
-    ended(&rest)?;
+    no_words_left(&rest)?;
     Some(Line::Protocol { name })
 }
 
@@ -59,7 +59,7 @@ fn clean_of(words: &Words) -> Option<bool>
     let Some((word, rest)) = words.first() else {
         return Some(false);
     };
-    ended(&rest)?;
+    no_words_left(&rest)?;
     if word == b"clean".as_slice() {
         Some(true)
     } else {
@@ -124,7 +124,7 @@ fn forward_line<'a>(words: &Words<'a>) -> Option<Line<'a>>
     let (name, rest) = name_at(words)?;
     let (word, rest) = rest.first()?;
     let class = find_word(word)?;
-    ended(&rest)?;
+    no_words_left(&rest)?;
     Some(Line::Message {
         name,
         class: MsgClass::Forward(class),
@@ -138,7 +138,7 @@ fn request_line<'a>(words: &Words<'a>) -> Option<Line<'a>>
     let (name, rest) = name_at(words)?;
     let (word, rest) = rest.first()?;
     let class = find_word(word)?;
-    ended(&rest)?;
+    no_words_left(&rest)?;
     Some(Line::Message {
         name,
         class: MsgClass::Request(class),
@@ -151,7 +151,7 @@ fn reply_line<'a>(words: &Words<'a>) -> Option<Line<'a>>
 {
     let (name, rest) = name_at(words)?;
     let (word, rest) = rest.first()?;
-    ended(&rest)?;
+    no_words_left(&rest)?;
     if word == b"data".as_slice() {
         Some(Line::Message {
             name,
@@ -181,7 +181,7 @@ fn are_pairs(words: &Words) -> bool
     }
 }
 
-/// What `hit` leads to, with the state behind it where one is there.
+/// What `hit` leads to, with the state after it where one is there.
 fn hit_shape<'a>(word: &[u8], next: Option<&[u8]>) -> Option<CoreShape<'a>>
     ensures { result ≡ forms.hit_shape word.now (option_map (λ w. w.now) next.entry) }
 {
@@ -233,7 +233,7 @@ fn leaving_shape<'a>(words: &Words<'a>) -> Option<CoreShape<'a>>
     ensures { result ≡ forms.leaving_shape words.now }
 {
     let (request, rest) = name_at(words)?;
-    ended(&rest)?;
+    no_words_left(&rest)?;
     Some(CoreShape::Leave { request })
 }
 
@@ -364,7 +364,7 @@ fn row_line<'a>(words: &Words<'a>) -> Option<Line<'a>>
     let (word, rest) = rest.first()?;
     let (shape, rest) = row_shape(word, &rest)?;
     let (next, rest) = state_at(&rest)?;
-    ended(&rest)?;
+    no_words_left(&rest)?;
     Some(Line::Row { dir, shape, next })
 }
 
@@ -372,12 +372,12 @@ fn row_line<'a>(words: &Words<'a>) -> Option<Line<'a>>
 fn end_line<'a>(words: &Words<'a>) -> Option<Line<'a>>
     ensures { result ≡ forms.end_line words.now }
 {
-    ended(words)?;
+    no_words_left(words)?;
     Some(Line::End)
 }
 
-fn line_after<'a>(word: &[u8], words: &Words<'a>) -> Option<Line<'a>>
-    ensures { result ≡ forms.line_after word.now words.now }
+fn line_by_first_word<'a>(word: &[u8], words: &Words<'a>) -> Option<Line<'a>>
+    ensures { result ≡ forms.line_by_first_word word.now words.now }
 {
     if word == b"protocol".as_slice() {
         protocol_line(words)
@@ -410,5 +410,5 @@ pub fn line_of<'a>(words: &Words<'a>) -> Option<Line<'a>>
     ensures { result ≡ forms.line_of words.now }
 {
     let (word, rest) = words.first()?;
-    line_after(word, &rest)
+    line_by_first_word(word, &rest)
 }

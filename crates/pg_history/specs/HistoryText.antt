@@ -36,7 +36,7 @@ is_entry (Store c v) = false
 abbrev pub with_step : ℕ → Step → ℕ
 with_step k x = if is_entry x then k + 1 else k
 
--- the lines of steps, behind this many transactions and stale evicts
+-- the lines of steps, after this many transactions and stale evicts
 abbrev pub step_lines : ℕ → List Step → List ℕ
 step_lines k [] = []
 step_lines k (x ∷ xs) = step_line (with_step k x) x ++ step_lines (with_step k x) xs

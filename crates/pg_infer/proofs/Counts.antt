@@ -19,7 +19,7 @@ use Rattle.pg_table.specs.declared.cache.Desc.TheVariants.{Stable, Ask, Leave}
 use Rattle.pg_table.specs.declared.cache.Phase.{Phase}
 use Rattle.pg_table.specs.declared.cache.Phase.TheVariants.{D, Ad, Ac, A}
 use Rattle.pg_table.specs.declared.cache.Tag.TheVariants.{Plain, Kept, Gave, Gone}
-use Rattle.pg_table.specs.Descriptors.{out_state, is_tag_of, tags, states, starts, first_states, waiting_states, store_states, descs}
+use Rattle.pg_table.specs.Descriptors.{out_state, is_tag_of, tags, stable_states, store_starts, first_states, waiting_states, store_states, descs}
 
 -- of six tests that all pass the first does
 first : (a b c d e f : Bool) → (a && b && c && d && e && f) ≡ true → a ≡ true
@@ -63,18 +63,18 @@ shared_few : (o : Option ℕ) → length (option_map_or (λ (s : ℕ). s ∷ [])
 shared_few None = omega arith
 shared_few (Some s) = omega arith
 
-states_are : (d : Draft) → length (states d) ≡ length d.caches
+states_are : (d : Draft) → length (stable_states d) ≡ length d.caches
 states_are d = length-range_with_len 0 (length d.caches)
 
-starts_few : (d : Draft) → IsWellFormed d → length (starts d) ≤ 18
+starts_few : (d : Draft) → IsWellFormed d → length (store_starts d) ≤ 18
 starts_few d well =
     let sharers = option_map_or (λ (s : ℕ). s ∷ []) (shared d) [] in
-    let readers = filter (cache_is is_read_owner d) (states d) in
+    let readers = filter (cache_is is_read_owner d) (stable_states d) in
     omega (
       arith,
       length-append (out_state d ∷ sharers) readers,
       shared_few (shared d),
-      filter_few (cache_is is_read_owner d) (states d),
+      filter_few (cache_is is_read_owner d) (stable_states d),
       states_are d,
       caches_few d well,
     )
@@ -83,16 +83,16 @@ pub descs_few : (d : Draft) (m : Mode) (xs : List Desc) → IsWellFormed d → x
 descs_few d m xs well e = subst (λ (ys : List Desc). length ys ≤ 256) (sym e) few
   where
     stable : List Desc
-    stable = map (λ s. Stable s) (states d)
+    stable = map (λ s. Stable s) (stable_states d)
 
     loads : List Desc
     loads = map (λ t. Ask Load (out_state d) D t) (tags d m (out_state d) Load)
 
     stores : List Desc
-    stores = flat_map (store_states d m) (starts d)
+    stores = flat_map (store_states d m) (store_starts d)
 
     others : List ℕ
-    others = filter (λ s. not (is (out d) s)) (states d)
+    others = filter (λ s. not (is (out d) s)) (stable_states d)
 
     leaving : List Desc
     leaving = map (λ s. Leave s) others
@@ -104,12 +104,12 @@ descs_few d m xs well e = subst (λ (ys : List Desc). length ys ≤ 256) (sym e)
       length-append (stable ++ loads ++ stores) leaving,
       length-append (stable ++ loads) stores,
       length-append stable loads,
-      length-map (states d) (λ s. Stable s),
+      length-map (stable_states d) (λ s. Stable s),
       asked_few d m (out_state d) Load D,
-      stores_few d m (starts d),
+      stores_few d m (store_starts d),
       starts_few d well,
       length-map others (λ s. Leave s),
-      filter_few (λ s. not (is (out d) s)) (states d),
+      filter_few (λ s. not (is (out d) s)) (stable_states d),
       states_are d,
       caches_few d well,
     )

@@ -5,4 +5,4 @@ pub mod Steps
 pub mod Nexts
 pub mod Counts
 pub mod Messages
-pub mod HomeCounts
+pub mod DirCounts

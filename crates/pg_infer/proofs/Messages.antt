@@ -8,7 +8,7 @@ use Rattle.std.proofs.lemmas.Grind.{flat_map-append}
 use Rattle.std.proofs.lemmas.Option.{same_Some}
 use Rattle.pg_perm.specs.declared.draft.MsgClass.{MsgClass}
 use Rattle.pg_perm.specs.declared.draft.MsgLine.{MsgLine}
-use Rattle.pg_table.specs.Generated.{messages_from}
+use Rattle.pg_table.specs.GeneratedStates.{messages_from}
 use Rattle.pg_infer.proofs.Ranges.{if_mapped, if_flat}
 
 one_more : (is_class : MsgClass → Bool) (n k : ℕ) (ms : List MsgLine) (m : MsgLine) → slice_get ms k ≡ Some m

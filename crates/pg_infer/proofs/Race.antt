@@ -25,8 +25,8 @@ use Rattle.pg_terms.specs.Terms.{is, is_out, is_shared, is_owner, is_read_perm, 
 use Rattle.pg_terms.specs.Due.{is_due}
 use Rattle.pg_shape.specs.Shaped.{IsShaped}
 use Rattle.pg_shape.proofs.Searches.{not_both, not_true, position_get, get_below, map_or_get}
-use Rattle.pg_shape.proofs.Shaped.{is_one}
-use Rattle.pg_standing.proofs.Holders.{is_same}
+use Rattle.pg_shape.proofs.Shaped.{is_then_some}
+use Rattle.pg_directory.proofs.Holders.{is_same}
 use Rattle.pg_race.specs.Sides.{side, IsOutstanding}
 use Rattle.pg_table.specs.declared.cache.Desc.{Desc}
 use Rattle.pg_table.specs.declared.cache.Desc.TheVariants.{Stable, Ask, Leave}
@@ -35,11 +35,11 @@ use Rattle.pg_table.specs.declared.cache.Tag.{Tag}
 use Rattle.pg_table.specs.declared.cache.Tag.TheVariants as tag
 use Rattle.pg_table.specs.declared.cache.Input.TheVariants as at
 use Rattle.pg_table.specs.declared.cache.Act.TheVariants as act
-use Rattle.pg_table.specs.Choices.{only, given, gives, answer, answered, earlier, later, is_earlier, choices}
+use Rattle.pg_table.specs.Choices.{only_choice, choices_if_some, data_acts, answer_acts, answer_choices, earlier_choices, later_choices, is_earlier, choices}
 use Rattle.pg_table.specs.Descriptors.{descs}
 use Rattle.pg_table.specs.Sound.{is_among}
 use Rattle.pg_table.proofs.Members.{IsStart, IsState, is_state}
-use Rattle.pg_infer.specs.Race.{class_in, class_of, is_before, role_of_start, is_tagged, event_of, start_of, role_of, is_granted, by_side, is_wait, is_answer}
+use Rattle.pg_infer.specs.Race.{class_in, class_of, is_before, role_of_start, is_tagged, event_of, start_of, role_of, is_granted, choices_by_side, is_wait, is_answer}
 
 has_class_in : (class : FwdClass) (m : MsgClass) → is_forward_of class m ≡ option_map_or (same_forward class) (class_in m) false
 has_class_in class (message.Request c) = refl
@@ -128,7 +128,7 @@ start_has_role d s (inr (inr e)) = (role.Owner, role_of_owner d s (read_owner_ow
 
 -- out isn't shared
 out_not_shared : (d : Draft) (s : ℕ) → out d ≡ Some s → is (shared d) s ≡ false
-out_not_shared d s e = not_true (is (shared d) s) (λ h. absurd (at (same_Some role.Out role.Shared (sym (role_of_out d s e) ∙ role_of_shared d s (is_one (shared d) s h)))))
+out_not_shared d s e = not_true (is (shared d) s) (λ h. absurd (at (same_Some role.Out role.Shared (sym (role_of_out d s e) ∙ role_of_shared d s (is_then_some (shared d) s h)))))
   where
     at : role.Out ≡ role.Shared → ⊥
     at e = absurd cc
@@ -143,7 +143,7 @@ role_of_first d s (inr (inr e)) free = absurd (not_both (cache_is (λ c. is_owne
 
 -- a forward that a state meets is treated as on the side where the race order puts its class
 abbrev IsDecided : Draft → Desc → Event → ℕ → FwdClass → Role → Type 0
-IsDecided d s event f class start = choices d s (at.Forward f) ≡ by_side d (side start event (is_granted s) class) s f
+IsDecided d s event f class start = choices d s (at.Forward f) ≡ choices_by_side d (side start event (is_granted s) class) s f
 
 decided_load : (d : Draft) (s : ℕ) (t : Tag) (f : ℕ) (class : FwdClass) → IsDecided d (Ask Load s D t) Load f class role.Out
 decided_load d s tag.Plain f class = refl
@@ -154,10 +154,10 @@ decided_load d s tag.Gone f class = refl
 decided_first : (d : Draft) (s : ℕ) (t : Tag) (f : ℕ) (class : FwdClass) → class_of d f ≡ Some class
     → IsDecided d (Ask Store s Ad t) Store f class (role_of_start d s)
 decided_first d s t f class e =
-    ap (λ (b : Bool). if b then earlier d s f else later d s Store Ad t f) (race_decides d s t f class e)
+    ap (λ (b : Bool). if b then earlier_choices d s f else later_choices d s Store Ad t f) (race_decides d s t f class e)
     ∙ at (side (role_of_start d s) Store (is_tagged t) class)
   where
-    at : (x : Side) → (if is_before x then earlier d s f else later d s Store Ad t f) ≡ by_side d x (Ask Store s Ad t) f
+    at : (x : Side) → (if is_before x then earlier_choices d s f else later_choices d s Store Ad t f) ≡ choices_by_side d x (Ask Store s Ad t) f
     at Before = refl
     at After = refl
 
@@ -197,22 +197,22 @@ decided d m _ event f class there e has = absurd there
 pub race_decides_all : (d : Draft) (m : Mode) (s : Desc) (event : Event) (f : ℕ) (class : FwdClass) → IsWellFormed d → IsShaped d → is_among (descs d m) s ≡ true
     → event_of s ≡ Some event → class_of d f ≡ Some class
     → (start : Role) × (role_of d (start_of s) ≡ Some start) × IsOutstanding start event (is_granted s)
-    × (choices d s (at.Forward f) ≡ by_side d (side start event (is_granted s) class) s f)
+    × (choices d s (at.Forward f) ≡ choices_by_side d (side start event (is_granted s) class) s f)
 race_decides_all d m s event f class formed shaped among e has = decided d m s event f class (is_state d m s shaped.perms among) e has
 
 -- Answers
 
-answer_is : (inv share : Bool) (r : Option ℕ) → list_any is_wait (if inv then act.Ack ∷ [] else if share then gives r ++ act.Wb ∷ [] else gives r) ≡ false
+answer_is : (inv share : Bool) (r : Option ℕ) → list_any is_wait (if inv then act.Ack ∷ [] else if share then data_acts r ++ act.Wb ∷ [] else data_acts r) ≡ false
 answer_is true share r = refl
 answer_is false true None = refl
 answer_is false true (Some r) = refl
 answer_is false false None = refl
 answer_is false false (Some r) = refl
 
-pub answers_do_not_wait : (d : Draft) (s : ℕ) (f : ℕ) (onward : ℕ → Desc) → is_answer (answered d s f onward) ≡ true
+pub answers_do_not_wait : (d : Draft) (s : ℕ) (f : ℕ) (onward : ℕ → Desc) → is_answer (answer_choices d s f onward) ≡ true
 answers_do_not_wait d s f onward = at (is_due d s f) (take_row d s f)
   where
-    at : (due : Bool) (row : Option TakeLine) → is_answer (if due then given row (λ t. only (answer d f t.reply) (onward t.next)) else []) ≡ true
+    at : (due : Bool) (row : Option TakeLine) → is_answer (if due then choices_if_some row (λ t. only_choice (answer_acts d f t.reply) (onward t.next)) else []) ≡ true
     at false row = refl
     at true None = refl
     at true (Some t) = ap not (answer_is (has_class Inv d f) (has_class Share d f) t.reply)

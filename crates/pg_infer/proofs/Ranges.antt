@@ -6,16 +6,16 @@ use Rattle.std.proofs.lemmas.List.{append_assoc, append-nil, map-append}
 use Rattle.std.proofs.lemmas.List.Elements.{filter-append}
 use Rattle.std.proofs.lemmas.Grind.{flat_map-append}
 
--- what is put behind a list is put behind what it grew from
-pub grown : {A : Type 0} (new old start y z w : List A) → new ≡ old ++ z → old ≡ start ++ y → y ++ z ≡ w → new ≡ start ++ w
-grown new old start y z w put was all = put ∙ ap (λ (o : List _). o ++ z) was ∙ append_assoc start y z ∙ ap (λ (t : List _). start ++ t) all
+-- what is put after a list is put after what it grew from
+pub append_grown : {A : Type 0} (new old start y z w : List A) → new ≡ old ++ z → old ≡ start ++ y → y ++ z ≡ w → new ≡ start ++ w
+append_grown new old start y z w put was all = put ∙ ap (λ (o : List _). o ++ z) was ∙ append_assoc start y z ∙ ap (λ (t : List _). start ++ t) all
 
-range_behind : (a n j : ℕ) → a + n ≡ j → range_with_len a (suc n) ≡ range_with_len a n ++ j ∷ []
-range_behind a zero j e = let same : a ≡ j = omega (arith, e) in ap (λ (k : ℕ). k ∷ []) same
-range_behind a (suc n) j e = let next : a + 1 + n ≡ j = omega (arith, e) in ap (λ (ks : List ℕ). a ∷ ks) (range_behind (a + 1) n j next)
+range_append : (a n j : ℕ) → a + n ≡ j → range_with_len a (suc n) ≡ range_with_len a n ++ j ∷ []
+range_append a zero j e = let same : a ≡ j = omega (arith, e) in ap (λ (k : ℕ). k ∷ []) same
+range_append a (suc n) j e = let next : a + 1 + n ≡ j = omega (arith, e) in ap (λ (ks : List ℕ). a ∷ ks) (range_append (a + 1) n j next)
 
 pub range_more : (a n j : ℕ) → a + n ≡ j → range_with_len a (n + 1) ≡ range_with_len a n ++ j ∷ []
-range_more a n j e = let next : n + 1 ≡ suc n = omega arith in ap (range_with_len a) next ∙ range_behind a n j e
+range_more a n j e = let next : n + 1 ≡ suc n = omega arith in ap (range_with_len a) next ∙ range_append a n j e
 
 filtered_one : (p : ℕ → Bool) (n : ℕ) → filter p (n ∷ []) ≡ (if p n then n ∷ [] else [])
 filtered_one p n = at (p n) refl
@@ -50,10 +50,10 @@ flat_filter_more f p n =
     ∙ sym (flat_map-append f (filter p (range_with_len 0 n)) (if p n then n ∷ [] else [])) ∙ ap (flat_map f) (filter_more p n)
 
 -- what is put is equal to this
-pub put_as : {A : Type 0} (new old y z : List A) → new ≡ old ++ y → y ≡ z → new ≡ old ++ z
-put_as new old y z put e = put ∙ ap (λ (t : List _). old ++ t) e
+pub append_same : {A : Type 0} (new old y z : List A) → new ≡ old ++ y → y ≡ z → new ≡ old ++ z
+append_same new old y z put e = put ∙ ap (λ (t : List _). old ++ t) e
 
--- what is put behind nothing, five times
+-- what is put after nothing, five times
 pub put_in_turn : {A : Type 0} (s0 s1 s2 s3 s4 s5 a b c d e : List A)
     → s0 ≡ [] → s1 ≡ s0 ++ a → s2 ≡ s1 ++ b → s3 ≡ s2 ++ c → s4 ≡ s3 ++ d → s5 ≡ s4 ++ e → s5 ≡ a ++ b ++ c ++ d ++ e
 put_in_turn s0 s1 s2 s3 s4 s5 a b c d e h0 h1 h2 h3 h4 h5 =

@@ -27,8 +27,8 @@ module _ {D I A : Type 0} (same : D → D → Bool) (states : List D) where
   with_row_last (t ∷ u ∷ ss) s r = ap (λ rest. t ∷ rest) (with_row_last (u ∷ ss) s r)
 
   -- these states, and this one with these rows last
-  abbrev ended : List (ControllerState D I A) → D → List (ControllerRow I A) → List (ControllerState D I A)
-  ended ss s rows = ss ++ record { desc = s; rows = rows } ∷ []
+  abbrev table_with_state : List (ControllerState D I A) → D → List (ControllerRow I A) → List (ControllerState D I A)
+  table_with_state ss s rows = ss ++ record { desc = s; rows = rows } ∷ []
 
   module _ (choose : I → Option (ControllerChoice D A)) where
     -- the rows at these inputs
@@ -52,10 +52,10 @@ module _ {D I A : Type 0} (same : D → D → Bool) (states : List D) where
         at : (o : Option (ControllerChoice D A)) → choose i ≡ o
             → put_row (ss ++ state_with inputs s ∷ []) (option_map (λ c. table_row_by same states (record { input = i; choice = c })) o)
             ≡ ss ++ state_with (inputs ++ i ∷ []) s ∷ []
-        at None e = ap (ended ss s) (sym (more None e ∙ append-nil (rows_at inputs)))
+        at None e = ap (table_with_state ss s) (sym (more None e ∙ append-nil (rows_at inputs)))
         at (Some c) e =
             with_row_last ss (state_with inputs s) (table_row_by same states (record { input = i; choice = c }))
-            ∙ ap (ended ss s) (sym (more (Some c) e))
+            ∙ ap (table_with_state ss s) (sym (more (Some c) e))
 
     -- the step of a loop over inputs
     pub row_put : (ss before after : List (ControllerState D I A)) (inputs : List I) (s : D) (k : ℕ) (x : I) (row : Option (ControllerRow I A))

@@ -8,7 +8,7 @@ use Rattle.pg_table.specs.declared.cache.Tag.TheVariants.{Plain}
 use Rattle.pg_table.specs.Descriptors.{store_phase}
 
 -- the state once a forward that is earlier than the outstanding operation has led the cache to this stable state
-abbrev pub moved : Draft → Desc → ℕ → Desc
-moved d (Stable s) t = Stable t
-moved d (Ask event s phase tag) t = Ask Store t (store_phase d t) Plain
-moved d (Leave s) t = Leave t
+abbrev pub desc_moved_to : Draft → Desc → ℕ → Desc
+desc_moved_to d (Stable s) t = Stable t
+desc_moved_to d (Ask event s phase tag) t = Ask Store t (store_phase d t) Plain
+desc_moved_to d (Leave s) t = Leave t

@@ -21,8 +21,8 @@ use Rattle.pg_table.specs.declared.cache.Tag.{Tag}
 use Rattle.pg_table.specs.declared.cache.Tag.TheVariants as tag
 use Rattle.pg_table.specs.declared.cache.Act.{Act}
 use Rattle.pg_table.specs.declared.cache.Act.TheVariants as act
-use Rattle.pg_table.specs.Choices.{Choice, answered, later}
-use Rattle.pg_infer.specs.Moves.{moved}
+use Rattle.pg_table.specs.Choices.{Choice, answer_choices, later_choices}
+use Rattle.pg_infer.specs.Moves.{desc_moved_to}
 
 -- Forwards
 
@@ -85,10 +85,10 @@ is_granted (Leave s) = false
 
 -- what may be done with a forward on this side of the outstanding operation: an earlier one is answered as in the stable state where that began,
 -- and the operation goes on from where it leads; a later one waits or is taken
-abbrev pub by_side : Draft → Side → Desc → ℕ → List Choice
-by_side d Before s f = answered d (start_of s) f (moved d s)
-by_side d After (Ask event s phase tag) f = later d s event phase tag f
-by_side d After _ f = []
+abbrev pub choices_by_side : Draft → Side → Desc → ℕ → List Choice
+choices_by_side d Before s f = answer_choices d (start_of s) f (desc_moved_to d s)
+choices_by_side d After (Ask event s phase tag) f = later_choices d s event phase tag f
+choices_by_side d After _ f = []
 
 -- a message waits, or is put off
 abbrev pub is_wait : Act → Bool

@@ -5,11 +5,11 @@ ghost use Rattle.pg_perm.specs.declared.kinds.Mode.{Mode};
 ghost use Rattle.pg_terms.specs.Rows as says;
 ghost use Rattle.pg_table.specs.Choices as may;
 ghost use Rattle.pg_table.specs.Descriptors as of;
-ghost use Rattle.pg_table.specs.Generated.{chosen};
+ghost use Rattle.pg_table.specs.GeneratedStates.{choice_of_mode};
 
-use crate::after::{after, pairs_of};
 use crate::choice::{Choice, Chosen, step};
-use crate::forwards::{answered, is_earlier, later};
+use crate::forwards::{answer_choice, is_earlier, later_choice};
+use crate::tag_ends::{end_under_tag, pairs_of};
 use pg_perm::{Event, Mode, ReplyName, Sequence};
 use pg_shape::Protocol;
 use pg_table::{Act, Desc, Input, Phase, Tag};
@@ -18,7 +18,7 @@ use std::alloc::{AllocError, Global};
 
 /// The acts with which an operation is done, and the later forwards that were put off are answered.
 fn done(alloc: Global, tag: Tag, acts: &[Act]) -> Result<Vec<Act>, AllocError>
-    ensures { IfOk result (λ all. all.items ≡ acts.now ++ Act.Done ∷ [] ++ may.serves tag) }
+    ensures { IfOk result (λ all. all.items ≡ acts.now ++ Act.Done ∷ [] ++ may.serve_acts tag) }
 {
     let mut all = Vec::new(alloc);
     all.extend_from_slice(acts)?;
@@ -30,8 +30,8 @@ fn done(alloc: Global, tag: Tag, acts: &[Act]) -> Result<Vec<Act>, AllocError>
 }
 
 /// The operation is done, and ends where its tag tells.
-fn ends(alloc: Global, protocol: &Protocol, tag: Tag, acts: &[Act], fin: Option<u8>) -> Chosen
-    ensures { IfOk result (λ c. (mode : Mode) → c ≡ chosen mode (may.ends protocol.now tag acts.now fin)) }
+fn end_choice(alloc: Global, protocol: &Protocol, tag: Tag, acts: &[Act], fin: Option<u8>) -> Chosen
+    ensures { IfOk result (λ c. (mode : Mode) → c ≡ choice_of_mode mode (may.end_choices protocol.now tag acts.now fin)) }
 {
     let Some(next) = after_if(protocol, tag, fin) else {
         return Ok(None);
@@ -43,14 +43,14 @@ fn ends(alloc: Global, protocol: &Protocol, tag: Tag, acts: &[Act], fin: Option<
 }
 
 fn after_if(protocol: &Protocol, tag: Tag, fin: Option<u8>) -> Option<u8>
-    ensures { result ≡ option_and_then (λ x. of.after protocol.now x tag) fin }
+    ensures { result ≡ option_and_then (λ x. of.end_under_tag protocol.now x tag) fin }
 {
-    after(protocol, fin?, tag)
+    end_under_tag(protocol, fin?, tag)
 }
 
 /// A step on which the operation goes on waiting; it comes only where there is a shared state.
 fn waits(alloc: Global, protocol: &Protocol, acts: &[Act], next: Desc) -> Chosen
-    ensures { IfOk result (λ c. (mode : Mode) → c ≡ chosen mode (may.shares protocol.now (may.only acts.now next))) }
+    ensures { IfOk result (λ c. (mode : Mode) → c ≡ choice_of_mode mode (may.choices_if_shared protocol.now (may.only_choice acts.now next))) }
 {
     match protocol.shared() {
         Some(_) => step(alloc, acts, next),
@@ -78,7 +78,7 @@ pub fn when_loading(
     tag: Tag,
     input: Input,
 ) -> Chosen
-    ensures { IfOk result (λ c. c ≡ chosen mode (may.when_loading protocol.now start tag input)) }
+    ensures { IfOk result (λ c. c ≡ choice_of_mode mode (may.when_loading protocol.now start tag input)) }
 {
     match input {
         Input::DataAll(reply) => {
@@ -88,9 +88,9 @@ pub fn when_loading(
                 Event::Load,
                 ReplyName::Reply(reply),
             );
-            ends(alloc, protocol, tag, &[Act::Fill], fin)
+            end_choice(alloc, protocol, tag, &[Act::Fill], fin)
         }
-        Input::Forward(forward) => later(
+        Input::Forward(forward) => later_choice(
             alloc,
             protocol,
             mode,
@@ -106,7 +106,7 @@ pub fn when_loading(
 
 /// Takes data whose count isn't that of the acknowledgements so far.
 fn takes_part(alloc: Global, protocol: &Protocol, start: u8, tag: Tag, reply: u8) -> Chosen
-    ensures { IfOk result (λ c. (mode : Mode) → c ≡ chosen mode (may.shares protocol.now (may.given (says.final protocol.now start Event.Store (ReplyName.Reply reply)) (λ x. may.only (Act.Fill ∷ Act.Need ∷ []) (Desc.Ask Event.Store start Phase.A tag))))) }
+    ensures { IfOk result (λ c. (mode : Mode) → c ≡ choice_of_mode mode (may.choices_if_shared protocol.now (may.choices_if_some (says.final_state protocol.now start Event.Store (ReplyName.Reply reply)) (λ x. may.only_choice (Act.Fill ∷ Act.Need ∷ []) (Desc.Ask Event.Store start Phase.A tag))))) }
 {
     match terms::final_state(
         protocol.draft(),
@@ -125,8 +125,8 @@ fn takes_part(alloc: Global, protocol: &Protocol, start: u8, tag: Tag, reply: u8
 }
 
 /// Answers a forward that is earlier than a store as where the store began.
-fn earlier(alloc: Global, protocol: &Protocol, start: u8, forward: u8) -> Chosen
-    ensures { IfOk result (λ c. (mode : Mode) → c ≡ chosen mode (may.earlier protocol.now start forward)) }
+fn earlier_choice(alloc: Global, protocol: &Protocol, start: u8, forward: u8) -> Chosen
+    ensures { IfOk result (λ c. (mode : Mode) → c ≡ choice_of_mode mode (may.earlier_choices protocol.now start forward)) }
 {
     let at = Desc::Ask {
         event: Event::Store,
@@ -134,17 +134,17 @@ fn earlier(alloc: Global, protocol: &Protocol, start: u8, forward: u8) -> Chosen
         phase: Phase::Ad,
         tag: Tag::Plain,
     };
-    answered(alloc, protocol, at, start, forward)
+    answer_choice(alloc, protocol, at, start, forward)
 }
 
 /// Answers a forward that is earlier than a store which waits for data, and lets a later one wait or takes it.
 fn meets(alloc: Global, protocol: &Protocol, mode: Mode, start: u8, tag: Tag, forward: u8) -> Chosen
-    ensures { IfOk result (λ c. c ≡ chosen mode (may.when_storing protocol.now start tag (Input.Forward forward))) }
+    ensures { IfOk result (λ c. c ≡ choice_of_mode mode (may.when_storing protocol.now start tag (Input.Forward forward))) }
 {
     if is_earlier(protocol, start, tag, forward) {
-        earlier(alloc, protocol, start, forward)
+        earlier_choice(alloc, protocol, start, forward)
     } else {
-        later(
+        later_choice(
             alloc,
             protocol,
             mode,
@@ -166,7 +166,7 @@ pub fn when_storing(
     tag: Tag,
     input: Input,
 ) -> Chosen
-    ensures { IfOk result (λ c. c ≡ chosen mode (may.when_storing protocol.now start tag input)) }
+    ensures { IfOk result (λ c. c ≡ choice_of_mode mode (may.when_storing protocol.now start tag input)) }
 {
     match input {
         Input::DataAll(reply) => {
@@ -176,7 +176,7 @@ pub fn when_storing(
                 Event::Store,
                 ReplyName::Reply(reply),
             );
-            ends(alloc, protocol, tag, &[Act::Fill], fin)
+            end_choice(alloc, protocol, tag, &[Act::Fill], fin)
         }
         Input::DataPart(reply) => takes_part(alloc, protocol, start, tag, reply),
         Input::AckMore => waits(alloc, protocol, &[Act::Count], store(start, Phase::Ad, tag)),
@@ -187,7 +187,7 @@ pub fn when_storing(
 
 /// What is done while a store of an owner waits for a count.
 pub fn when_upgrading(alloc: Global, protocol: &Protocol, start: u8, input: Input) -> Chosen
-    ensures { IfOk result (λ c. (mode : Mode) → c ≡ chosen mode (may.when_upgrading protocol.now start input)) }
+    ensures { IfOk result (λ c. (mode : Mode) → c ≡ choice_of_mode mode (may.when_upgrading protocol.now start input)) }
 {
     match input {
         Input::CountAll => {
@@ -197,7 +197,7 @@ pub fn when_upgrading(alloc: Global, protocol: &Protocol, start: u8, input: Inpu
                 Event::Store,
                 ReplyName::AckCount,
             );
-            ends(alloc, protocol, Tag::Plain, &[], fin)
+            end_choice(alloc, protocol, Tag::Plain, &[], fin)
         }
         Input::CountPart => waits(
             alloc,
@@ -211,14 +211,14 @@ pub fn when_upgrading(alloc: Global, protocol: &Protocol, start: u8, input: Inpu
             &[Act::Count],
             store(start, Phase::Ac, Tag::Plain),
         ),
-        Input::Forward(forward) => earlier(alloc, protocol, start, forward),
+        Input::Forward(forward) => earlier_choice(alloc, protocol, start, forward),
         _ => Ok(None),
     }
 }
 
 /// The one state in which a store ends that began in this state.
 fn store_final(protocol: &Protocol, start: u8) -> Option<u8>
-    ensures { result ≡ may.store_final (of.finals protocol.now start Event.Store) }
+    ensures { result ≡ may.store_final (of.final_states protocol.now start Event.Store) }
 {
     Some(pairs_of(protocol, start, Event::Store).first()?.fin)
 }
@@ -232,15 +232,15 @@ pub fn when_waiting(
     tag: Tag,
     input: Input,
 ) -> Chosen
-    ensures { IfOk result (λ c. c ≡ chosen mode (may.when_waiting protocol.now start tag input)) }
+    ensures { IfOk result (λ c. c ≡ choice_of_mode mode (may.when_waiting protocol.now start tag input)) }
 {
     match input {
         Input::AckMore => step(alloc, &[Act::Count], store(start, Phase::A, tag)),
         Input::AckLast => {
             let fin = store_final(protocol, start);
-            ends(alloc, protocol, tag, &[Act::Count], fin)
+            end_choice(alloc, protocol, tag, &[Act::Count], fin)
         }
-        Input::Forward(forward) => later(
+        Input::Forward(forward) => later_choice(
             alloc,
             protocol,
             mode,

@@ -23,14 +23,14 @@ impl<D, A> Model for ControllerChoice<D, A> {
 
 pub type Choice = ControllerChoice<Desc, Act>;
 
-pub type HomeChoice = ControllerChoice<DirDesc, DirAct>;
+pub type DirChoice = ControllerChoice<DirDesc, DirAct>;
 
 /// What is done, or none where the input can't come.
 pub type ControllerChosen<D, A> = Result<Option<ControllerChoice<D, A>>, AllocError>;
 
 pub type Chosen = ControllerChosen<Desc, Act>;
 
-pub type HomeChosen = ControllerChosen<DirDesc, DirAct>;
+pub type DirChosen = ControllerChosen<DirDesc, DirAct>;
 
 /// These acts, and then this state.
 pub fn step<D: Drop, A: Copy + Drop>(alloc: Global, acts: &[A], next: D) -> ControllerChosen<D, A>

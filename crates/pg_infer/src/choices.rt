@@ -1,7 +1,7 @@
 //! What is done in each state at each input.
 ghost use Rattle.std.specs.Prelude.{◌≡◌, IfOk};
 ghost use Rattle.pg_table.specs.Choices as may;
-ghost use Rattle.pg_table.specs.Generated.{chosen};
+ghost use Rattle.pg_table.specs.GeneratedStates.{choice_of_mode};
 
 use crate::asking::{when_loading, when_storing, when_upgrading, when_waiting};
 use crate::choice::Chosen;
@@ -22,7 +22,7 @@ fn when_asking(
     tag: Tag,
     input: Input,
 ) -> Chosen
-    ensures { IfOk result (λ c. c ≡ chosen mode (may.choices protocol.now (Desc.Ask event start phase tag) input)) }
+    ensures { IfOk result (λ c. c ≡ choice_of_mode mode (may.choices protocol.now (Desc.Ask event start phase tag) input)) }
 {
     match (event, phase) {
         (Event::Load, Phase::D) => when_loading(alloc, protocol, mode, start, tag, input),
@@ -35,9 +35,10 @@ fn when_asking(
 
 impl State for Desc {
     type Input = Input;
+
     type Act = Act;
 
-    ghost choice = { λ d m s i. chosen m (may.choices d s i) };
+    ghost choice = { λ d m s i. choice_of_mode m (may.choices d s i) };
 
     /// What is done in a state at an input, or none where the input can't come. Of two choices the stalling mode has the one in which the forward
     /// waits, and the deferring mode the other.

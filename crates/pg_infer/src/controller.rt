@@ -16,6 +16,7 @@ use std::alloc::{AllocError, Global};
 /// A state of a controller of a protocol.
 pub trait State: Copy + PartialEq + Drop {
     type Input: Copy + Drop;
+
     type Act: Drop;
 
     ghost choice: { Draft → Mode → Self → Self.Input → Option (ControllerChoice Self Self.Act) };

@@ -1,7 +1,7 @@
 //! The table of the directory controller, of a protocol.
 ghost use Rattle.std.specs.Prelude.{◌≡◌, ◌≤◌, length, IfOk};
 ghost use Rattle.pg_perm.specs.Drafts.{IsWellFormed};
-ghost use Rattle.pg_table.specs.Home as home;
+ghost use Rattle.pg_table.specs.Directory as directory;
 ghost use Rattle.pg_table.specs.Tables as tables;
 
 mod choices;
@@ -32,7 +32,7 @@ const INPUTS: &[DirInput] = &[
 
 /// A row that passes a request on by a share leads to this state.
 fn is_after_share(draft: &Draft, dir: u8) -> bool
-    ensures { result ≡ home.is_after_share draft.now dir }
+    ensures { result ≡ directory.is_after_share draft.now dir }
 {
     draft
         .rows
@@ -41,11 +41,11 @@ fn is_after_share(draft: &Draft, dir: u8) -> bool
         .any(|row| is_by_share(draft, row) && row.next == dir)
 }
 
-#[tactic(auto, using(crate::proofs::HomeCounts::dirs_few, crate::proofs::HomeCounts::states_few))]
+#[tactic(auto, using(crate::proofs::DirCounts::dirs_few, crate::proofs::DirCounts::states_few))]
 /// The states of the controller: those that are declared, and one that waits for data before each that a share leads to.
-fn home_descs(alloc: Global, draft: &Draft) -> Result<Vec<DirDesc>, AllocError>
+fn dir_descs(alloc: Global, draft: &Draft) -> Result<Vec<DirDesc>, AllocError>
     requires { IsWellFormed draft.now }
-    ensures exact { IfOk result (λ states. states.items ≡ home.home_descs draft.now) }
+    ensures exact { IfOk result (λ states. states.items ≡ directory.dir_descs draft.now) }
     ensures few { IfOk result (λ states. length states.items ≤ 32) }
 {
     let dirs = draft.dirs.len() as u8;
@@ -57,9 +57,9 @@ fn home_descs(alloc: Global, draft: &Draft) -> Result<Vec<DirDesc>, AllocError>
 }
 
 /// The table of the directory controller, which is the same in both modes.
-pub fn home_table(alloc: Global, protocol: &Protocol) -> Result<DirTable, AllocError>
-    ensures { IfOk result (λ table. table ≡ tables.home_table protocol.now) }
+pub fn dir_table(alloc: Global, protocol: &Protocol) -> Result<DirTable, AllocError>
+    ensures { IfOk result (λ table. table ≡ tables.dir_table protocol.now) }
 {
-    let states = home_descs(alloc, protocol.draft())?;
+    let states = dir_descs(alloc, protocol.draft())?;
     table_of(alloc, protocol, Mode::Stall, states.as_slice(), INPUTS)
 }

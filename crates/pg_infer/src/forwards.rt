@@ -7,12 +7,12 @@ ghost use Rattle.pg_terms.specs.Terms as term;
 ghost use Rattle.pg_terms.specs.Due as due;
 ghost use Rattle.pg_terms.specs.Rows as says;
 ghost use Rattle.pg_table.specs.Choices as may;
-ghost use Rattle.pg_table.specs.Generated.{chosen};
-ghost use Rattle.pg_infer.specs.Moves.{moved as moved_to};
+ghost use Rattle.pg_table.specs.GeneratedStates.{choice_of_mode};
+ghost use Rattle.pg_infer.specs.Moves.{desc_moved_to as moved_to};
 ghost use Rattle.pg_infer.specs.Race as race;
 
-use crate::after::{pairs_of, store_phase};
 use crate::choice::{Choice, Chosen, step};
+use crate::tag_ends::{pairs_of, store_phase};
 use pg_perm::{Event, FwdClass, Mode, MsgClass, Pair, Role, Sequence, Side};
 use pg_race::order;
 use pg_shape::Protocol;
@@ -21,13 +21,13 @@ use pg_terms as terms;
 use std::alloc::{AllocError, Global};
 
 /// The answer of a forward, with the reply of its take row.
-fn answer(
+fn answer_acts(
     alloc: Global,
     protocol: &Protocol,
     forward: u8,
     reply: Option<u8>,
 ) -> Result<Vec<Act>, AllocError>
-    ensures { IfOk result (λ acts. acts.items ≡ may.answer protocol.now forward reply) }
+    ensures { IfOk result (λ acts. acts.items ≡ may.answer_acts protocol.now forward reply) }
 {
     let mut acts = Vec::new(alloc);
     if terms::has_class(FwdClass::Inv, protocol.draft(), forward) {
@@ -44,7 +44,7 @@ fn answer(
 }
 
 /// The state once a forward that is earlier than the outstanding operation has led the cache to this stable state.
-fn moved(protocol: &Protocol, at: Desc, to: u8) -> Desc
+fn desc_moved_to(protocol: &Protocol, at: Desc, to: u8) -> Desc
     ensures { result ≡ moved_to protocol.now at to }
 {
     match at {
@@ -60,8 +60,8 @@ fn moved(protocol: &Protocol, at: Desc, to: u8) -> Desc
 }
 
 /// Answers a forward as in the stable state `state`, on which the state `at` stands.
-pub fn answered(alloc: Global, protocol: &Protocol, at: Desc, state: u8, forward: u8) -> Chosen
-    ensures { IfOk result (λ c. (mode : Mode) → c ≡ chosen mode (may.answered protocol.now state forward (moved_to protocol.now at))) }
+pub fn answer_choice(alloc: Global, protocol: &Protocol, at: Desc, state: u8, forward: u8) -> Chosen
+    ensures { IfOk result (λ c. (mode : Mode) → c ≡ choice_of_mode mode (may.answer_choices protocol.now state forward (moved_to protocol.now at))) }
 {
     if !protocol.due(state, forward) {
         return Ok(None);
@@ -70,8 +70,8 @@ pub fn answered(alloc: Global, protocol: &Protocol, at: Desc, state: u8, forward
         return Ok(None);
     };
     Ok(Some(Choice {
-        acts: Sequence::from(answer(alloc, protocol, forward, line.reply)?),
-        next: moved(protocol, at, line.next),
+        acts: Sequence::from(answer_acts(alloc, protocol, forward, line.reply)?),
+        next: desc_moved_to(protocol, at, line.next),
     }))
 }
 
@@ -147,7 +147,7 @@ fn taking(protocol: &Protocol, forward: u8) -> Act
 }
 
 /// Lets a forward that is later than the outstanding operation wait, or takes it.
-pub fn later(
+pub fn later_choice(
     alloc: Global,
     protocol: &Protocol,
     mode: Mode,
@@ -157,7 +157,7 @@ pub fn later(
     tag: Tag,
     forward: u8,
 ) -> Chosen
-    ensures { IfOk result (λ c. c ≡ chosen mode (may.later protocol.now start event phase tag forward)) }
+    ensures { IfOk result (λ c. c ≡ choice_of_mode mode (may.later_choices protocol.now start event phase tag forward)) }
 {
     if !is_later(protocol, start, event, tag, forward) {
         return Ok(None);

@@ -3,7 +3,7 @@ ghost use Rattle.std.specs.Prelude.{◌≡◌, IfOk};
 ghost use Rattle.pg_table.specs.Tables.{generated_tables};
 ghost use Rattle.pg_table.specs.Sound.{IsSound};
 
-use crate::directory::home_table;
+use crate::directory::dir_table;
 use crate::table::cache_table;
 use pg_perm::Mode;
 use pg_shape::Protocol;
@@ -19,6 +19,6 @@ pub fn generate(alloc: Global, protocol: &Protocol, mode: Mode) -> Result<Tables
     ensures sound { IfOk result (λ t. IsSound t.protocol t.cache t.home) }
 {
     let cache = cache_table(alloc, protocol, mode)?;
-    let home = home_table(alloc, protocol)?;
+    let home = dir_table(alloc, protocol)?;
     Tables::make(protocol, mode, cache, home)
 }

@@ -4,7 +4,7 @@ ghost use Rattle.std.specs.List.{flat_map};
 ghost use Rattle.pg_perm.specs.Classes as way;
 ghost use Rattle.pg_perm.specs.Drafts.{IsWellFormed};
 ghost use Rattle.pg_table.specs.declared.cache.Input.TheVariants as at;
-ghost use Rattle.pg_table.specs.Generated as generated;
+ghost use Rattle.pg_table.specs.GeneratedStates as generated_states;
 
 use pg_perm::{Draft, Event, MsgClass, MsgLine};
 use pg_table::Input;
@@ -17,7 +17,7 @@ const CORE: &[Input] = &[
     Input::Core(Event::Evict),
 ];
 
-/// What comes from the directory, behind the forwards.
+/// What comes from the directory, after the forwards.
 const ANSWERS: &[Input] = &[Input::CountAll, Input::CountPart, Input::PutAck];
 
 const ACKS: &[Input] = &[Input::AckMore, Input::AckLast];
@@ -47,7 +47,7 @@ fn put_data(inputs: &mut Vec<Input>, class: MsgClass, number: u8) -> Result<(), 
 
 fn put_forwards(inputs: &mut Vec<Input>, messages: &[MsgLine]) -> Result<(), AllocError>
     requires { length messages.now ≤ 32 }
-    ensures { IfOk result (λ _. inputs.new.items ≡ inputs.old.items ++ map (λ f. at.Forward f) (generated.messages_from way.is_forward 0 messages.now)) }
+    ensures { IfOk result (λ _. inputs.new.items ≡ inputs.old.items ++ map (λ f. at.Forward f) (generated_states.messages_from way.is_forward 0 messages.now)) }
 {
     for number in 0..messages.len() as u8 {
         put_forward(inputs, messages[usize::from(number)].class, number)?;
@@ -57,7 +57,7 @@ fn put_forwards(inputs: &mut Vec<Input>, messages: &[MsgLine]) -> Result<(), All
 
 fn put_replies(inputs: &mut Vec<Input>, messages: &[MsgLine]) -> Result<(), AllocError>
     requires { length messages.now ≤ 32 }
-    ensures { IfOk result (λ _. inputs.new.items ≡ inputs.old.items ++ flat_map (λ r. at.DataAll r ∷ at.DataPart r ∷ []) (generated.messages_from way.is_reply 0 messages.now)) }
+    ensures { IfOk result (λ _. inputs.new.items ≡ inputs.old.items ++ flat_map (λ r. at.DataAll r ∷ at.DataPart r ∷ []) (generated_states.messages_from way.is_reply 0 messages.now)) }
 {
     for number in 0..messages.len() as u8 {
         put_data(inputs, messages[usize::from(number)].class, number)?;
@@ -68,7 +68,7 @@ fn put_replies(inputs: &mut Vec<Input>, messages: &[MsgLine]) -> Result<(), Allo
 /// The inputs of a cache controller.
 pub fn inputs(alloc: Global, draft: &Draft) -> Result<Vec<Input>, AllocError>
     requires { IsWellFormed draft.now }
-    ensures { IfOk result (λ all. all.items ≡ generated.inputs draft.now) }
+    ensures { IfOk result (λ all. all.items ≡ generated_states.inputs draft.now) }
 {
     let messages = draft.messages.as_slice();
     let mut inputs = Vec::new(alloc);

@@ -3,7 +3,6 @@
 //! docs/TABLES.md has them.
 #![tactic(auto)]
 
-mod after;
 mod asking;
 mod choice;
 mod choices;
@@ -16,6 +15,7 @@ mod laws;
 mod stable;
 mod states;
 mod table;
+mod tag_ends;
 
 pub use generator::generate;
 pub use laws::{answers_do_not_wait, the_race_order_decides};

@@ -7,7 +7,7 @@ ghost use Rattle.pg_table.specs.declared.cache.Desc.TheVariants as desc;
 ghost use Rattle.pg_table.specs.Descriptors as of;
 ghost use Rattle.pg_infer.specs.Tags as tells;
 
-use crate::after::{has_tag, out_state, store_phase};
+use crate::tag_ends::{has_tag, out_state, store_phase};
 use pg_perm::{Event, Mode};
 use pg_shape::Protocol;
 use pg_table::{Desc, Phase, Tag};
@@ -175,7 +175,7 @@ fn put_shared(states: &mut Vec<Desc>, protocol: &Protocol, mode: Mode) -> Result
 }
 
 fn put_stores(states: &mut Vec<Desc>, protocol: &Protocol, mode: Mode) -> Result<(), AllocError>
-    ensures { IfOk result (λ _. states.new.items ≡ states.old.items ++ flat_map (of.store_states protocol.now mode) (of.starts protocol.now)) }
+    ensures { IfOk result (λ _. states.new.items ≡ states.old.items ++ flat_map (of.store_states protocol.now mode) (of.store_starts protocol.now)) }
 {
     put_store(states, protocol, mode, out_state(protocol))?;
     put_shared(states, protocol, mode)?;

@@ -15,7 +15,7 @@ use std::alloc::{AllocError, Global};
 /// The table of a cache controller.
 pub fn cache_table(alloc: Global, protocol: &Protocol, mode: Mode) -> Result<Table, AllocError>
     ensures exact { IfOk result (λ table. table ≡ tables.cache_table protocol.now mode) }
-    ensures sound { IfOk result (λ table. IsSound protocol.now table (tables.home_table protocol.now)) }
+    ensures sound { IfOk result (λ table. IsSound protocol.now table (tables.dir_table protocol.now)) }
 {
     let states = descs(alloc, protocol, mode)?;
     let inputs = inputs(alloc, protocol.draft())?;

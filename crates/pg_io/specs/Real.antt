@@ -7,7 +7,7 @@ use Rattle.pg_io.specs.declared.sink.Put.{Put}
 use Rattle.pg_io.specs.declared.sink.Put.TheVariants as put
 
 -- a stream, and how many of its calls have failed
-pub record Counted (S : Type 0) : Type 0 where
+pub record CountedStream (S : Type 0) : Type 0 where
   pub stream : S
   pub faults : ℕ
 

@@ -33,7 +33,7 @@ const PIECE: usize = 65536;
 
 /// Reads all that is left, if that is at most `limit` bytes. Answers `TooLong` as soon as one byte more than that has
 /// been taken, `Fault` as soon as the source fails, and `Memory` where no room is left to store a piece. After each
-/// of these the source goes on behind what was taken.
+/// of these the source goes on after what was taken.
 pub fn read_all<S: Source>(
     alloc: Global,
     source: &mut S,

@@ -20,9 +20,9 @@ pub struct RealSource<R> {
 }
 
 impl<R> Model for RealSource<R> {
-    ghost use Rattle.pg_io.specs.Real.{Counted};
+    ghost use Rattle.pg_io.specs.Real.{CountedStream};
 
-    ghost Value = { Counted R };
+    ghost Value = { CountedStream R };
 
     ghost view = { λ s. record { stream = s.reader; faults = s.faults } };
 }
@@ -68,9 +68,9 @@ pub struct RealSink<W> {
 }
 
 impl<W> Model for RealSink<W> {
-    ghost use Rattle.pg_io.specs.Real.{Counted};
+    ghost use Rattle.pg_io.specs.Real.{CountedStream};
 
-    ghost Value = { Counted W };
+    ghost Value = { CountedStream W };
 
     ghost view = { λ s. record { stream = s.writer; faults = s.faults } };
 }

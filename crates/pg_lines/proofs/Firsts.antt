@@ -13,7 +13,7 @@ pub no_first : {A : Type 0} (xs : List A) → None ≡ first_rest xs → xs ≡ 
 no_first [] h = refl
 no_first (x ∷ xs) h = cc
 
--- two elements, and none behind them
+-- two elements, and none after them
 pub two_firsts : {A : Type 0} (xs rest more : List A) (x y : A) → Some (x, rest) ≡ first_rest xs → Some (y, more) ≡ first_rest rest → None ≡ first_rest more
     → xs ≡ x ∷ y ∷ []
 two_firsts {A} xs rest more x y h g e =

@@ -4,7 +4,7 @@ use Rattle.std.specs.List.{join_by, join_with_byte, flat_map}
 use Rattle.std.specs.Borrow.{Bor}
 use Rattle.pg_lines.specs.Lines.{line_text}
 
--- a word, and the others behind spaces
+-- a word, and the others after spaces
 joined_from : (w : List ℕ) (ws : List (Bor (List ℕ))) → w ++ flat_map (λ v. 32 ∷ v.now) ws ≡ join_with_byte 32 (w ∷ map (λ v. v.now) ws)
 joined_from w [] = append-nil w
 joined_from w (v ∷ ws) = ap (λ (more : List ℕ). w ++ 32 ∷ more) (joined_from v.now ws)

@@ -1,10 +1,10 @@
--- The first line of a text, and the bytes behind it.
+-- The first line of a text, and the bytes after it.
 use Rattle.std.proofs.Common.{◌≡◌, ℕ, ◌+◌, ◌<◌, Bool, true, false, List, [], ◌∷◌, length, take, drop, refl, ap, sym, ◌∙◌, arith, cond, Option, Some, None, add-one, length-drop}
 use Rattle.std.specs.Prelude.{position, ◌==◌}
 use Rattle.std.specs.List.{slice_split, onto_first}
 use Rattle.std.specs.Option.{option_map, option_map_or}
 use Rattle.std.proofs.lemmas.Option.{same_Some}
-use Rattle.pg_lines.specs.Lines.{lines_of, without_empty_last, first_line, line_of_cut, cut_at, behind, behind_line}
+use Rattle.pg_lines.specs.Lines.{lines_of, without_empty_last, first_line, line_of_cut, cut_at, bytes_after, bytes_after_line}
 use Rattle.pg_lines.proofs.Cuts.{parts_cut, parts_of_cut}
 
 -- a cut gives one part at least
@@ -21,9 +21,9 @@ without_empty_last-cons : (x y : List ℕ) (ys : List (List ℕ)) → without_em
 without_empty_last-cons [] y ys = refl
 without_empty_last-cons (c ∷ cs) y ys = refl
 
--- a line before other bytes is the first line, also where nothing stands behind it
-pub lines_behind : (line rest : List ℕ) → without_empty_last (line ∷ slice_split (λ c. c == 10) rest) ≡ line ∷ lines_of rest
-lines_behind line rest =
+-- a line before other bytes is the first line, also where nothing stands after it
+pub lines_after_first : (line rest : List ℕ) → without_empty_last (line ∷ slice_split (λ c. c == 10) rest) ≡ line ∷ lines_of rest
+lines_after_first line rest =
     let part = some_part (λ c. c == 10) rest in
     ap (λ ps. without_empty_last (line ∷ ps)) part.2 ∙ without_empty_last-cons line part.0 part.1 ∙ ap (λ ps. line ∷ without_empty_last ps) (sym part.2)
 
@@ -31,7 +31,7 @@ lines_behind line rest =
 lines_by_cut : (b : ℕ) (bs : List ℕ) (o : Option (List ℕ × List ℕ)) (line rest : List ℕ) → Some (line, rest) ≡ line_of_cut (b ∷ bs) o
     → without_empty_last (parts_of_cut 10 (b ∷ bs) o) ≡ line ∷ lines_of rest
 lines_by_cut b bs None line rest h = ap (λ (p : List ℕ × List ℕ). p.0 ∷ lines_of p.1) (sym (same_Some (line, rest) (b ∷ bs, []) h))
-lines_by_cut b bs (Some p) line rest h = lines_behind p.0 p.1 ∙ ap (λ (q : List ℕ × List ℕ). q.0 ∷ lines_of q.1) (sym (same_Some (line, rest) p h))
+lines_by_cut b bs (Some p) line rest h = lines_after_first p.0 p.1 ∙ ap (λ (q : List ℕ × List ℕ). q.0 ∷ lines_of q.1) (sym (same_Some (line, rest) p h))
 
 pub lines_of-first : (bytes line rest : List ℕ) → Some (line, rest) ≡ first_line bytes → lines_of bytes ≡ line ∷ lines_of rest
 lines_of-first [] line rest h = cc
@@ -56,7 +56,7 @@ length-rest (b ∷ bs) line rest h = shorter (position (λ c. c == 10) (b ∷ bs
         let e : rest ≡ drop (i + 1) (b ∷ bs) = ap (λ (p : List ℕ × List ℕ). p.1) (same_Some (line, rest) (take i (b ∷ bs), drop (i + 1) (b ∷ bs)) g) in
         omega (arith, ap length e, length-drop (i + 1) (b ∷ bs))
 
--- what is behind one more line
-pub behind-more : (bytes line rest more : List ℕ) (before : ℕ) → rest ≡ behind before bytes → Some (line, more) ≡ first_line rest → more ≡ behind (before + 1) bytes
-behind-more bytes line rest more before is_rest h =
-    ap (λ o. option_map_or (λ (p : List ℕ × List ℕ). p.1) o []) h ∙ ap behind_line is_rest ∙ ap (λ k. behind k bytes) (sym (add-one before))
+-- what is after one more line
+pub bytes_after-more : (bytes line rest more : List ℕ) (before : ℕ) → rest ≡ bytes_after before bytes → Some (line, more) ≡ first_line rest → more ≡ bytes_after (before + 1) bytes
+bytes_after-more bytes line rest more before is_rest h =
+    ap (λ o. option_map_or (λ (p : List ℕ × List ℕ). p.1) o []) h ∙ ap bytes_after_line is_rest ∙ ap (λ k. bytes_after k bytes) (sym (add-one before))

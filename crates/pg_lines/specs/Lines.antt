@@ -28,7 +28,7 @@ abbrev pub first_rest : {A : Type 0} → List A → Option (A × List A)
 first_rest [] = None
 first_rest (x ∷ xs) = Some (x, xs)
 
--- the bytes before the first c, and those behind it
+-- the bytes before the first c, and those after it
 abbrev pub cut_at : ℕ → List ℕ → Option (List ℕ × List ℕ)
 cut_at c bytes = option_map (λ i. (take i bytes, drop (i + 1) bytes)) (position (λ b. b == c) bytes)
 
@@ -37,23 +37,23 @@ abbrev pub line_of_cut : List ℕ → Option (List ℕ × List ℕ) → Option (
 line_of_cut bytes None = Some (bytes, [])
 line_of_cut bytes (Some p) = Some p
 
--- the first line, and the bytes behind its newline
+-- the first line, and the bytes after its newline
 abbrev pub first_line : List ℕ → Option (List ℕ × List ℕ)
 first_line [] = None
 first_line (b ∷ bs) = line_of_cut (b ∷ bs) (cut_at 10 (b ∷ bs))
 
--- the bytes behind the first line
-abbrev pub behind_line : List ℕ → List ℕ
-behind_line bytes = option_map_or (λ p. p.1) (first_line bytes) []
+-- the bytes after the first line
+abbrev pub bytes_after_line : List ℕ → List ℕ
+bytes_after_line bytes = option_map_or (λ p. p.1) (first_line bytes) []
 
--- the bytes behind the first n lines
-abbrev pub behind : ℕ → List ℕ → List ℕ
-behind zero bytes = bytes
-behind (suc n) bytes = behind_line (behind n bytes)
+-- the bytes after the first n lines
+abbrev pub bytes_after : ℕ → List ℕ → List ℕ
+bytes_after zero bytes = bytes
+bytes_after (suc n) bytes = bytes_after_line (bytes_after n bytes)
 
--- the place behind line n, in bytes
-abbrev pub place_behind : ℕ → List ℕ → ℕ
-place_behind n bytes = length bytes - length (behind n bytes)
+-- the place after line n, in bytes
+abbrev pub place_after : ℕ → List ℕ → ℕ
+place_after n bytes = length bytes - length (bytes_after n bytes)
 
 -- a line of words: single spaces part them, and a newline ends it
 abbrev pub line_text : List (List ℕ) → List ℕ

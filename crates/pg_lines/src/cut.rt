@@ -8,7 +8,7 @@ fn place_of(bytes: &[u8], separator: u8) -> Option<usize>
     bytes.iter().position(|byte| *byte == separator)
 }
 
-/// The bytes before the first `separator` and those behind it, or none where it doesn't occur.
+/// The bytes before the first `separator` and those after it, or none where it doesn't occur.
 pub fn cut(bytes: &[u8], separator: u8) -> Option<(&[u8], &[u8])>
     ensures { option_map (λ x. (x.0.now, x.1.now)) result ≡ cut_at separator bytes.now }
 {

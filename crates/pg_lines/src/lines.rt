@@ -4,7 +4,7 @@ ghost use Rattle.pg_lines.specs.Lines.{first_line};
 
 use crate::cut::cut;
 
-/// The next line without its newline, and the bytes behind it. There is none where no byte is left.
+/// The next line without its newline, and the bytes after it. There is none where no byte is left.
 pub fn split_line(bytes: &[u8]) -> Option<(&[u8], &[u8])>
     ensures { option_map (λ x. (x.0.now, x.1.now)) result ≡ first_line bytes.now }
 {

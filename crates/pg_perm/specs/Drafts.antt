@@ -33,8 +33,8 @@ abbrev pub message_names : Draft → List (List ℕ)
 message_names d = map (λ m. m.name) d.messages
 
 -- how many core, take and row lines there are
-abbrev pub rule_lines : Draft → ℕ
-rule_lines d = length d.cores + length d.takes + length d.rows
+abbrev pub rule_line_count : Draft → ℕ
+rule_line_count d = length d.cores + length d.takes + length d.rows
 
 -- the names that no message may have
 abbrev pub taken_names : List (List ℕ)
@@ -110,13 +110,13 @@ has_row d r = has_dir d r.dir && has_row_form d r.form && has_dir d r.next
 abbrev pub has_numbers : Draft → Bool
 has_numbers d = list_all (λ s. list_all (has_cache d) s.beside) d.dirs && list_all (has_core d) d.cores && list_all (has_take d) d.takes && list_all (has_row d) d.rows
 
--- no number is above the one behind it
+-- no number is above the one after it
 abbrev pub is_ordered : List ℕ → Bool
 is_ordered [] = true
 is_ordered (n ∷ []) = true
 is_ordered (n ∷ m ∷ ns) = nat_le n m && is_ordered (m ∷ ns)
 
--- each number is below the one behind it
+-- each number is below the one after it
 abbrev pub is_rising : List ℕ → Bool
 is_rising [] = true
 is_rising (n ∷ []) = true
@@ -135,7 +135,7 @@ pair_count (Leave request) = 0
 
 -- the limits on lines hold, and no line has more than 80 words
 abbrev pub has_limits : Draft → Bool
-has_limits d = nat_le (length d.caches) 16 && nat_le (length d.dirs) 16 && nat_le (length d.messages) 32 && nat_le (rule_lines d) 512
+has_limits d = nat_le (length d.caches) 16 && nat_le (length d.dirs) 16 && nat_le (length d.messages) 32 && nat_le (rule_line_count d) 512
     && list_all (λ s. nat_le (length s.beside) 77) d.dirs && list_all (λ c. nat_le (pair_count c.form) 38) d.cores
 
 -- the draft is that of a text which breaks no rule of the form, up to the numbers of its lines

@@ -144,6 +144,6 @@ pub enum Action {
     Reply(u8),
     /// The request is passed on to the owner.
     Forward(u8),
-    /// The requester is told how many acknowledgements to wait for.
+    /// The requestor is told how many acknowledgements to wait for.
     Count,
 }

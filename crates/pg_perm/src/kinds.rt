@@ -48,11 +48,11 @@ pub enum ReqClass {
 pub enum FwdClass {
     /// To give up a shared copy and acknowledge it.
     Inv,
-    /// To send data to the requester and to memory, and become a sharer.
+    /// To send data to the requestor and to memory, and become a sharer.
     Share,
-    /// To send data to the requester, and stay the owner.
+    /// To send data to the requestor, and stay the owner.
     Keep,
-    /// To send data to the requester, and hold no copy.
+    /// To send data to the requestor, and hold no copy.
     Drop,
 }
 
@@ -102,7 +102,7 @@ pub enum Left {
 pub enum Mode {
     /// It lets the forward wait until its own transaction is done.
     Stall,
-    /// It takes the forward at once: it acknowledges an inv, and answers another when its own transaction is done.
+    /// It takes the forward at once: it acknowledges an invalidation, and answers another when its own transaction is done.
     Defer,
 }
 

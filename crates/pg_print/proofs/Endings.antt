@@ -44,7 +44,7 @@ same_ending p q t u e =
     let same : (p, t) ≡ (q, u) = same_Some (p, t) (q, u) (sym (told_of p t) ∙ ap told e ∙ told_of q u) in
     (ap (λ (x : Phase × Tag). x.0) same, ap (λ (x : Phase × Tag). x.1) same)
 
--- what stands behind the `_` of a phase
+-- what stands after the `_` of a phase
 abbrev pub letters : Phase → List ℕ
 letters D = codes "D"
 letters Ad = codes "AD"

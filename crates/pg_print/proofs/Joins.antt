@@ -2,11 +2,11 @@
 use Rattle.std.proofs.Common.{◌≡◌, ℕ, Bool, true, false, cond, ◌&&◌, List, [], ◌∷◌, ◌++◌, length, refl, sym, ◌∙◌, append_assoc, arith}
 use Rattle.std.specs.Prelude.{codes}
 use Rattle.std.proofs.lemmas.Bool.{eqb-true, and_parts}
-use Rattle.pg_print.specs.Names.{is_single, join}
+use Rattle.pg_print.specs.Names.{is_single, join_names}
 use Rattle.pg_print.proofs.Lacking.{lacks, lacks_both, lacks_apart, same_around}
 
 -- where `_` stands in neither name, it doesn't stand in the joined one
-pub join_lacks : (a b : List ℕ) → lacks 95 a ≡ true → lacks 95 b ≡ true → lacks 95 (join a b) ≡ true
+pub join_lacks : (a b : List ℕ) → lacks 95 a ≡ true → lacks 95 b ≡ true → lacks 95 (join_names a b) ≡ true
 join_lacks a b h g = at (is_single a && is_single b)
   where
     at : (t : Bool) → lacks 95 (cond t (a ++ b) (a ++ codes "." ++ b)) ≡ true
@@ -24,7 +24,7 @@ single_same (p ∷ []) b (q ∷ []) y h g e = (cc, cc)
 dotted : (a b : List ℕ) → a ++ codes "." ++ b ≡ a ++ 46 ∷ b
 dotted a b = append_assoc a (codes ".") b
 
-pub same_join : (a b x y : List ℕ) → lacks 46 a ≡ true → lacks 46 b ≡ true → lacks 46 x ≡ true → lacks 46 y ≡ true → join a b ≡ join x y
+pub same_join : (a b x y : List ℕ) → lacks 46 a ≡ true → lacks 46 b ≡ true → lacks 46 x ≡ true → lacks 46 y ≡ true → join_names a b ≡ join_names x y
     → (a ≡ x) × (b ≡ y)
 same_join a b x y ha hb hx hy e = at (is_single a && is_single b) refl (is_single x && is_single y) refl e
   where

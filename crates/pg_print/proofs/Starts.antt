@@ -24,8 +24,8 @@ use Rattle.pg_shape.specs.CoreRules.{is_dirty_writer}
 use Rattle.pg_terms.specs.Rows.{allows, final_under}
 use Rattle.pg_shape.specs.Shaped.{HasPerms, IsShaped}
 use Rattle.pg_shape.proofs.Searches.{not_both, find_get, position_get, map_or_get, all_at}
-use Rattle.pg_standing.proofs.Facts.{out_no_writer}
-use Rattle.pg_table.specs.Descriptors.{out_state, finals_in, finals}
+use Rattle.pg_directory.proofs.Facts.{out_no_writer}
+use Rattle.pg_table.specs.Descriptors.{out_state, final_states_in, final_states}
 use Rattle.pg_table.proofs.Members.{IsStart}
 use Rattle.pg_print.specs.Names.{first_name}
 
@@ -101,13 +101,13 @@ abbrev pub EndsIn : Draft → List ℕ → Type 0
 EndsIn d ss = (f : ℕ) × (first_name d ss ≡ cache_name d f) × (f < length d.caches) × (f ≢ out_state d)
 
 -- a state in which a store asks is there, and the store ends in another than out
-pub start_ends : (d : Draft) → IsWellFormed d → IsShaped d → (s : ℕ) → IsStart d s → (s < length d.caches) × EndsIn d (finals d s Store)
+pub start_ends : (d : Draft) → IsWellFormed d → IsShaped d → (s : ℕ) → IsStart d s → (s < length d.caches) × EndsIn d (final_states d s Store)
 start_ends d w shaped s h =
     let (c, get, denied) = start_denies d shaped.perms s h in
     let (x, row) = shaped.cores.row s Store c get (λ e. absurd cc) in
     let (request, pairs, asks, first) = shaped.cores.store s x c get row denied in
     let formed : has_core_form d x.event (form.Ask request pairs) ≡ true = ap (has_core_form d x.event) (sym asks) ∙ row_formed d w s Store x row in
-    let ends : finals d s Store ≡ map (λ p. p.fin) pairs = ap (λ (o : Option CoreLine). option_map_or (λ l. finals_in l.form) o []) row ∙ ap finals_in asks in
+    let ends : final_states d s Store ≡ map (λ p. p.fin) pairs = ap (λ (o : Option CoreLine). option_map_or (λ l. final_states_in l.form) o []) row ∙ ap final_states_in asks in
     let P : List ℕ → Type 0 = EndsIn d in
     (slice_get_within d.caches s c get, subst P (sym ends) (at x row request pairs asks (asks_some d x.event request pairs formed)))
   where

@@ -11,7 +11,7 @@ use Rattle.pg_perm.specs.Names.{is_letter, is_digit, is_underscore, is_name_byte
 use Rattle.pg_perm.specs.Drafts.{cache_names, dir_names, message_names, are_distinct, IsWellFormed}
 use Rattle.pg_perm.specs.Words.{name_of, cache_name, dir_name}
 use Rattle.pg_lines.proofs.Weaker.{all_weaker}
-use Rattle.pg_shape.proofs.Bools.{and_both}
+use Rattle.pg_shape.proofs.Bools.{and_of_both}
 use Rattle.pg_shape.proofs.Searches.{not_both, all_at, any_at, get_below}
 use Rattle.pg_print.proofs.Lacking.{lacks}
 
@@ -27,7 +27,7 @@ bytes_of : (w : List ℕ) → is_name w ≡ true → list_all is_name_byte w ≡
 bytes_of [] h = absurd cc
 bytes_of (b ∷ bs) h =
     let parts = and_parts (is_letter b && nat_lt (length bs) 24) (list_all is_name_byte bs) h in
-    and_both (is_name_byte b) (list_all is_name_byte bs) (letter_byte b (and_parts (is_letter b) (nat_lt (length bs) 24) parts.0).0) parts.1
+    and_of_both (is_name_byte b) (list_all is_name_byte bs) (letter_byte b (and_parts (is_letter b) (nat_lt (length bs) 24) parts.0).0) parts.1
 
 none_all : (w : List ℕ) → list_any is_underscore w ≡ false → lacks 95 w ≡ true
 none_all [] h = refl

@@ -8,9 +8,9 @@ use Rattle.pg_table.specs.declared.cache.Phase.{Phase}
 use Rattle.pg_table.specs.declared.cache.Phase.TheVariants.{D, Ad, Ac, A}
 use Rattle.pg_table.specs.declared.cache.Tag.{Tag}
 use Rattle.pg_table.specs.declared.cache.Tag.TheVariants.{Plain, Kept, Gave, Gone}
-use Rattle.pg_table.specs.declared.home.DirDesc.{DirDesc}
-use Rattle.pg_table.specs.declared.home.DirDesc.TheVariants.{State, Busy}
-use Rattle.pg_table.specs.Descriptors.{out_state, finals}
+use Rattle.pg_table.specs.declared.directory.DirDesc.{DirDesc}
+use Rattle.pg_table.specs.declared.directory.DirDesc.TheVariants.{State, Busy}
+use Rattle.pg_table.specs.Descriptors.{out_state, final_states}
 
 -- the name of the first of these states, if there is one
 abbrev pub first_name : Draft → List ℕ → List ℕ
@@ -22,8 +22,8 @@ abbrev pub is_single : List ℕ → Bool
 is_single name = length name == 1
 
 -- two names as one, which still tells where the first ends
-abbrev pub join : List ℕ → List ℕ → List ℕ
-join a b = if is_single a && is_single b then a ++ b else a ++ codes "." ++ b
+abbrev pub join_names : List ℕ → List ℕ → List ℕ
+join_names a b = if is_single a && is_single b then a ++ b else a ++ codes "." ++ b
 
 abbrev pub phase_word : Phase → List ℕ
 phase_word D = codes "_D"
@@ -40,9 +40,9 @@ tag_word Gone = codes "_gone"
 -- where an operation began and where it ends with its first final state, what it waits for, and its tag; an evict ends as out
 abbrev pub state_name : Draft → Desc → List ℕ
 state_name d (Stable s) = cache_name d s
-state_name d (Ask event s phase tag) = join (cache_name d s) (first_name d (finals d s event)) ++ phase_word phase ++ tag_word tag
-state_name d (Leave s) = join (cache_name d s) (cache_name d (out_state d)) ++ codes "_A"
+state_name d (Ask event s phase tag) = join_names (cache_name d s) (first_name d (final_states d s event)) ++ phase_word phase ++ tag_word tag
+state_name d (Leave s) = join_names (cache_name d s) (cache_name d (out_state d)) ++ codes "_A"
 
-abbrev pub home_name : Draft → DirDesc → List ℕ
-home_name d (State n) = dir_name d n
-home_name d (Busy n) = dir_name d n ++ codes "_D"
+abbrev pub dir_state_name : Draft → DirDesc → List ℕ
+dir_state_name d (State n) = dir_name d n
+dir_state_name d (Busy n) = dir_name d n ++ codes "_D"

@@ -8,14 +8,14 @@ use Rattle.pg_lines.specs.Lines.{text_of}
 use Rattle.pg_table.specs.declared.cache.Desc.{Desc}
 use Rattle.pg_table.specs.declared.cache.Input.{Input}
 use Rattle.pg_table.specs.declared.cache.Act.{Act}
-use Rattle.pg_table.specs.declared.home.DirDesc.{DirDesc}
-use Rattle.pg_table.specs.declared.home.DirInput.{DirInput}
-use Rattle.pg_table.specs.declared.home.DirAct.{DirAct}
+use Rattle.pg_table.specs.declared.directory.DirDesc.{DirDesc}
+use Rattle.pg_table.specs.declared.directory.DirInput.{DirInput}
+use Rattle.pg_table.specs.declared.directory.DirAct.{DirAct}
 use Rattle.pg_table.specs.declared.table.ControllerRow.{ControllerRow}
 use Rattle.pg_table.specs.declared.table.ControllerState.{ControllerState}
 use Rattle.pg_table.specs.Tables.{Parts}
-use Rattle.pg_print.specs.Names.{state_name, home_name}
-use Rattle.pg_print.specs.Words.{input_word, act_words, home_input_word, home_act_words}
+use Rattle.pg_print.specs.Names.{state_name, dir_state_name}
+use Rattle.pg_print.specs.Words.{input_word, act_words, dir_input_word, dir_act_words}
 
 -- Words
 
@@ -32,8 +32,8 @@ pub record Wording (D I A : Type 0) : Type 0 where
 abbrev pub cache_wording : Wording Desc Input Act
 cache_wording = record { state = codes "state"; row = codes "on"; name = state_name; input = input_word; act = act_words }
 
-abbrev pub home_wording : Wording DirDesc DirInput DirAct
-home_wording = record { state = codes "home"; row = codes "at"; name = home_name; input = home_input_word; act = home_act_words }
+abbrev pub dir_wording : Wording DirDesc DirInput DirAct
+dir_wording = record { state = codes "home"; row = codes "at"; name = dir_state_name; input = dir_input_word; act = dir_act_words }
 
 -- The lines of a controller
 
@@ -67,7 +67,7 @@ controller_lines w d states = name_lines w.state (names_of w d states) ++ flat_m
 
 abbrev pub table_lines : Parts → List (List (List ℕ))
 table_lines t = (codes "table" ∷ t.protocol.name ∷ mode_word t.mode ∷ []) ∷ controller_lines cache_wording t.protocol t.cache
-    ++ controller_lines home_wording t.protocol t.home ++ (codes "end" ∷ []) ∷ []
+    ++ controller_lines dir_wording t.protocol t.home ++ (codes "end" ∷ []) ∷ []
 
 -- the text of the tables of both controllers
 abbrev pub table_text : Parts → List ℕ

@@ -9,10 +9,10 @@ use Rattle.pg_table.specs.declared.cache.Input.{Input}
 use Rattle.pg_table.specs.declared.cache.Input.TheVariants as at
 use Rattle.pg_table.specs.declared.cache.Act.{Act}
 use Rattle.pg_table.specs.declared.cache.Act.TheVariants as act
-use Rattle.pg_table.specs.declared.home.DirInput.{DirInput}
-use Rattle.pg_table.specs.declared.home.DirInput.TheVariants as met
-use Rattle.pg_table.specs.declared.home.DirAct.{DirAct}
-use Rattle.pg_table.specs.declared.home.DirAct.TheVariants as does
+use Rattle.pg_table.specs.declared.directory.DirInput.{DirInput}
+use Rattle.pg_table.specs.declared.directory.DirInput.TheVariants as met
+use Rattle.pg_table.specs.declared.directory.DirAct.{DirAct}
+use Rattle.pg_table.specs.declared.directory.DirAct.TheVariants as does
 
 -- Cache controllers
 
@@ -48,19 +48,19 @@ act_words d act.Stall = codes "stall" ∷ []
 abbrev pub request_name : Draft → ReqClass → List ℕ
 request_name d class = option_map_or (message_name d) (request_of d class) []
 
-abbrev pub home_input_word : Draft → DirInput → List ℕ
-home_input_word d (met.Ask class who) = request_name d class ++ codes "." ++ who_word who
-home_input_word d (met.Evict who left) = codes "evict." ++ who_word who ++ codes "." ++ left_word left
-home_input_word d met.EvictNone = codes "evict.none"
-home_input_word d (met.BusyAsk class) = request_name d class
-home_input_word d met.BusyEvict = codes "evict"
-home_input_word d met.Wb = codes "WbData"
+abbrev pub dir_input_word : Draft → DirInput → List ℕ
+dir_input_word d (met.Ask class who) = request_name d class ++ codes "." ++ who_word who
+dir_input_word d (met.Evict who left) = codes "evict." ++ who_word who ++ codes "." ++ left_word left
+dir_input_word d met.EvictNone = codes "evict.none"
+dir_input_word d (met.BusyAsk class) = request_name d class
+dir_input_word d met.BusyEvict = codes "evict"
+dir_input_word d met.Wb = codes "WbData"
 
-abbrev pub home_act_words : Draft → DirAct → List (List ℕ)
-home_act_words d (does.Reply m) = codes "reply" ∷ message_name d m ∷ []
-home_act_words d (does.Forward m) = codes "forward" ∷ message_name d m ∷ []
-home_act_words d does.Inv = codes "inv" ∷ []
-home_act_words d does.AckCount = codes "ackcount" ∷ []
-home_act_words d does.Write = codes "write" ∷ []
-home_act_words d does.PutAck = codes "putack" ∷ []
-home_act_words d does.Stall = codes "stall" ∷ []
+abbrev pub dir_act_words : Draft → DirAct → List (List ℕ)
+dir_act_words d (does.Reply m) = codes "reply" ∷ message_name d m ∷ []
+dir_act_words d (does.Forward m) = codes "forward" ∷ message_name d m ∷ []
+dir_act_words d does.Inv = codes "inv" ∷ []
+dir_act_words d does.AckCount = codes "ackcount" ∷ []
+dir_act_words d does.Write = codes "write" ∷ []
+dir_act_words d does.PutAck = codes "putack" ∷ []
+dir_act_words d does.Stall = codes "stall" ∷ []

@@ -3,11 +3,11 @@ use Rattle.std.specs.Prelude.{ℕ, List, [], ◌∷◌, ◌++◌, codes}
 use Rattle.std.specs.List.{flat_map}
 
 -- lines as one text
-abbrev pub of_lines : List (List ℕ) → List ℕ
-of_lines lines = flat_map (λ line. line ++ codes "\n") lines
+abbrev pub text_of_lines : List (List ℕ) → List ℕ
+text_of_lines lines = flat_map (λ line. line ++ codes "\n") lines
 
 abbrev pub mi_stall_text : List ℕ
-mi_stall_text = of_lines (
+mi_stall_text = text_of_lines (
     codes "table MI stall" ∷
     codes "state I" ∷
     codes "state M" ∷
@@ -42,7 +42,7 @@ mi_stall_text = of_lines (
     [])
 
 abbrev pub mi_defer_text : List ℕ
-mi_defer_text = of_lines (
+mi_defer_text = text_of_lines (
     codes "table MI defer" ∷
     codes "state I" ∷
     codes "state M" ∷
@@ -81,7 +81,7 @@ mi_defer_text = of_lines (
     [])
 
 abbrev pub msi_stall_text : List ℕ
-msi_stall_text = of_lines (
+msi_stall_text = text_of_lines (
     codes "table MSI stall" ∷
     codes "state I" ∷
     codes "state S" ∷
@@ -158,7 +158,7 @@ msi_stall_text = of_lines (
     [])
 
 abbrev pub msi_defer_text : List ℕ
-msi_defer_text = of_lines (
+msi_defer_text = text_of_lines (
     codes "table MSI defer" ∷
     codes "state I" ∷
     codes "state S" ∷

@@ -8,7 +8,7 @@ ghost use Rattle.pg_print.specs.TableText as print;
 use pg_lines::put_line;
 use std::alloc::{AllocError, Global};
 
-/// Puts a line for each name last, behind a word.
+/// Puts a line for each name last, after a word.
 pub fn put_names(
     alloc: Global,
     text: &mut String,

@@ -2,7 +2,7 @@
 ghost use Rattle.std.specs.Prelude.{◌≡◌, IfOk};
 ghost use Rattle.std.specs.String.{string_bytes};
 ghost use Rattle.pg_perm.specs.Words as word;
-ghost use Rattle.pg_table.specs.Descriptors.{out_state, finals, finals_in};
+ghost use Rattle.pg_table.specs.Descriptors.{out_state, final_states, final_states_in};
 ghost use Rattle.pg_print.specs.Names as name;
 
 use pg_perm::{CoreForm, Draft, Event, cache_name, dir_name};
@@ -17,7 +17,7 @@ fn out_name(draft: &Draft) -> &str
 }
 
 fn first_name<'a>(draft: &'a Draft, form: &CoreForm) -> &'a str
-    ensures { result.now ≡ name.first_name draft.now (finals_in form.now) }
+    ensures { result.now ≡ name.first_name draft.now (final_states_in form.now) }
 {
     let CoreForm::Ask { pairs, .. } = form else {
         return "";
@@ -30,7 +30,7 @@ fn first_name<'a>(draft: &'a Draft, form: &CoreForm) -> &'a str
 
 /// The name of the first final state of an operation that began in this state.
 fn final_name(draft: &Draft, start: u8, event: Event) -> &str
-    ensures { result.now ≡ name.first_name draft.now (finals draft.now start event) }
+    ensures { result.now ≡ name.first_name draft.now (final_states draft.now start event) }
 {
     match core_row(draft, start, event) {
         Some(line) => first_name(draft, &line.form),
@@ -45,8 +45,8 @@ fn is_single(word: &str) -> bool
 }
 
 /// Two names as one, which still tells where the first ends.
-fn join(alloc: Global, first: &str, last: &str) -> Result<String, AllocError>
-    ensures { IfOk result (λ text. string_bytes text ≡ name.join first.now last.now) }
+fn join_names(alloc: Global, first: &str, last: &str) -> Result<String, AllocError>
+    ensures { IfOk result (λ text. string_bytes text ≡ name.join_names first.now last.now) }
 {
     let mut text = String::from_str(alloc, first)?;
     if !(is_single(first) && is_single(last)) {
@@ -94,7 +94,7 @@ fn asked_name(
 ) -> Result<String, AllocError>
     ensures { IfOk result (λ text. string_bytes text ≡ name.state_name draft.now (Desc.Ask event start phase tag)) }
 {
-    let mut text = join(
+    let mut text = join_names(
         alloc,
         cache_name(draft, usize::from(start)),
         final_name(draft, start, event),
@@ -107,7 +107,7 @@ fn asked_name(
 fn leaving_name(alloc: Global, draft: &Draft, state: u8) -> Result<String, AllocError>
     ensures { IfOk result (λ text. string_bytes text ≡ name.state_name draft.now (Desc.Leave state)) }
 {
-    let mut text = join(
+    let mut text = join_names(
         alloc,
         cache_name(draft, usize::from(state)),
         out_name(draft),
@@ -133,7 +133,7 @@ pub fn state_name(alloc: Global, draft: &Draft, desc: Desc) -> Result<String, Al
 }
 
 fn busy_name(alloc: Global, draft: &Draft, state: u8) -> Result<String, AllocError>
-    ensures { IfOk result (λ text. string_bytes text ≡ name.home_name draft.now (DirDesc.Busy state)) }
+    ensures { IfOk result (λ text. string_bytes text ≡ name.dir_state_name draft.now (DirDesc.Busy state)) }
 {
     let mut text = String::from_str(alloc, dir_name(draft, usize::from(state)))?;
     text.push_str("_D")?;
@@ -141,8 +141,8 @@ fn busy_name(alloc: Global, draft: &Draft, state: u8) -> Result<String, AllocErr
 }
 
 /// The name of a state of the directory controller.
-pub fn home_name(alloc: Global, draft: &Draft, desc: DirDesc) -> Result<String, AllocError>
-    ensures { IfOk result (λ text. string_bytes text ≡ name.home_name draft.now desc) }
+pub fn dir_state_name(alloc: Global, draft: &Draft, desc: DirDesc) -> Result<String, AllocError>
+    ensures { IfOk result (λ text. string_bytes text ≡ name.dir_state_name draft.now desc) }
 {
     match desc {
         DirDesc::State(state) => { String::from_str(alloc, dir_name(draft, usize::from(state))) }

@@ -9,7 +9,7 @@ use pg_table::{Act, DirAct, DirInput, Input};
 use pg_terms::request_of;
 use std::alloc::{AllocError, Global};
 
-/// The name of a message, and what stands behind it.
+/// The name of a message, and what stands after it.
 fn message_with(alloc: Global, draft: &Draft, message: u8, end: &str) -> Result<String, AllocError>
     ensures { IfOk result (λ text. string_bytes text ≡ perm.message_name draft.now message ++ end.now) }
 {
@@ -94,8 +94,8 @@ fn evict_word(alloc: Global, who: Who, left: Left) -> Result<String, AllocError>
     Ok(text)
 }
 
-pub fn home_input_word(alloc: Global, draft: &Draft, input: DirInput) -> Result<String, AllocError>
-    ensures { IfOk result (λ text. string_bytes text ≡ word.home_input_word draft.now input) }
+pub fn dir_input_word(alloc: Global, draft: &Draft, input: DirInput) -> Result<String, AllocError>
+    ensures { IfOk result (λ text. string_bytes text ≡ word.dir_input_word draft.now input) }
 {
     match input {
         DirInput::Ask(class, who) => with_dot(alloc, request_name(draft, class), who.word()),
@@ -108,12 +108,12 @@ pub fn home_input_word(alloc: Global, draft: &Draft, input: DirInput) -> Result<
 }
 
 /// Puts the words of an act of the directory last.
-pub fn put_home_act<'a>(
+pub fn put_dir_act<'a>(
     words: &mut Vec<&'a str>,
     draft: &'a Draft,
     act: DirAct,
 ) -> Result<(), AllocError>
-    ensures { IfOk result (λ _. map (λ w. w.now) words.new.items ≡ map (λ w. w.now) words.old.items ++ word.home_act_words draft.now act) }
+    ensures { IfOk result (λ _. map (λ w. w.now) words.new.items ≡ map (λ w. w.now) words.old.items ++ word.dir_act_words draft.now act) }
 {
     match act {
         DirAct::Reply(message) => {

@@ -2,10 +2,10 @@
 ghost use Rattle.std.specs.Prelude.{◌≡◌, ◌++◌, map, IfOk};
 ghost use Rattle.std.specs.List.{flat_map};
 ghost use Rattle.std.specs.String.{string_bytes};
-ghost use Rattle.pg_print.specs.TableText.{Wording, cache_wording, home_wording};
+ghost use Rattle.pg_print.specs.TableText.{Wording, cache_wording, dir_wording};
 
-use crate::name::{home_name, state_name};
-use crate::word::{home_input_word, input_word, put_act, put_home_act};
+use crate::name::{dir_state_name, state_name};
+use crate::word::{dir_input_word, input_word, put_act, put_dir_act};
 use pg_perm::Draft;
 use pg_table::{Act, Desc, DirAct, DirDesc, DirInput, Input};
 use std::alloc::{AllocError, Global};
@@ -13,6 +13,7 @@ use std::alloc::{AllocError, Global};
 /// A state of a controller, whose table can be written.
 pub trait State: Copy {
     type Input: Copy;
+
     type Act: Copy;
 
     ghost wording: { Wording Self Self.Input Self.Act };
@@ -42,6 +43,7 @@ pub trait State: Copy {
 
 impl State for Desc {
     type Input = Input;
+
     type Act = Act;
 
     ghost wording = { cache_wording };
@@ -62,20 +64,17 @@ impl State for Desc {
         input_word(alloc, draft, input)
     }
 
-    fn put_act<'a>(
-        words: &mut Vec<&'a str>,
-        draft: &'a Draft,
-        act: Act,
-    ) -> Result<(), AllocError> {
+    fn put_act<'a>(words: &mut Vec<&'a str>, draft: &'a Draft, act: Act) -> Result<(), AllocError> {
         put_act(words, draft, act)
     }
 }
 
 impl State for DirDesc {
     type Input = DirInput;
+
     type Act = DirAct;
 
-    ghost wording = { home_wording };
+    ghost wording = { dir_wording };
 
     fn state_word() -> &'static str {
         "home"
@@ -86,11 +85,11 @@ impl State for DirDesc {
     }
 
     fn name(self, alloc: Global, draft: &Draft) -> Result<String, AllocError> {
-        home_name(alloc, draft, self)
+        dir_state_name(alloc, draft, self)
     }
 
     fn input_word(alloc: Global, draft: &Draft, input: DirInput) -> Result<String, AllocError> {
-        home_input_word(alloc, draft, input)
+        dir_input_word(alloc, draft, input)
     }
 
     fn put_act<'a>(
@@ -98,7 +97,7 @@ impl State for DirDesc {
         draft: &'a Draft,
         act: DirAct,
     ) -> Result<(), AllocError> {
-        put_home_act(words, draft, act)
+        put_dir_act(words, draft, act)
     }
 }
 

@@ -9,7 +9,7 @@ use Rattle.pg_perm.specs.declared.kinds.FwdClass.TheVariants.{Inv, Share, Keep, 
 use Rattle.pg_perm.specs.declared.kinds.Side.{Side}
 use Rattle.pg_perm.specs.declared.kinds.Side.TheVariants.{Before, After}
 
--- a store that began as a sharer: the inv of another's store comes before, and what goes to an owner after
+-- a store that began as a sharer: the invalidation of another's store comes before, and what goes to an owner after
 abbrev pub side_of_sharer : FwdClass → Side
 side_of_sharer Inv = Before
 side_of_sharer Share = After

@@ -4,12 +4,12 @@ use Rattle.std.specs.Prelude.{◌==◌}
 use Rattle.std.specs.List.{slice_split, join_with_byte, flat_map}
 use Rattle.std.proofs.lemmas.List.Splits.{join_with_byte-slice_split}
 use Rattle.pg_lines.specs.Lines.{lines_of, words_of, without_empty_last, text_of}
-use Rattle.pg_script.specs.Printing.{printed, IsTextOf}
+use Rattle.pg_script.specs.Printing.{script_text, IsTextOf}
 use Rattle.pg_script.specs.Scripts.{Operations}
 use Rattle.pg_script.specs.Texts.{reading}
 use Rattle.pg_script.proofs.Taken.{words_kept}
 
--- lines, each with a newline behind it
+-- lines, each with a newline after it
 abbrev with_newlines : List (List ℕ) → List ℕ
 with_newlines lines = flat_map (λ line. line ++ 10 ∷ []) lines
 
@@ -39,7 +39,7 @@ lines_text bytes =
     subst (λ (whole : List ℕ). IsTextOf whole (with_newlines (without_empty_last parts))) (join_with_byte-slice_split 10 bytes) (parts_text parts)
 
 -- a script is the text of what it says
-pub text_kept : (bytes : List ℕ) (s : Operations) → reading bytes ≡ Ok s → IsTextOf bytes (printed s)
+pub text_kept : (bytes : List ℕ) (s : Operations) → reading bytes ≡ Ok s → IsTextOf bytes (script_text s)
 text_kept bytes s e =
-    let same : with_newlines (lines_of bytes) ≡ printed s = sym (words_text (lines_of bytes)) ∙ ap text_of (words_kept bytes s e) in
+    let same : with_newlines (lines_of bytes) ≡ script_text s = sym (words_text (lines_of bytes)) ∙ ap text_of (words_kept bytes s e) in
     subst (IsTextOf bytes) same (lines_text bytes)

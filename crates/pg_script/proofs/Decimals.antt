@@ -12,21 +12,21 @@ use Rattle.pg_script.specs.Forms.{IsShort}
 use Rattle.pg_script.specs.Numbers.{is_number, number_of}
 use Rattle.pg_script.proofs.Digits.{decimals, IsNumberWord, number_word, word_number}
 
--- digits behind a number make no smaller one
+-- digits after a number make no smaller one
 value_grows : (n : ℕ) (ds : List ℕ) → n ≤ digits_value_after 10 n ds
 value_grows n [] = omega arith
 value_grows n (c ∷ cs) = omega (arith, value_grows (n * 10 + digit_value c) cs)
 
--- digits behind a number are those behind its decimal
-decimal_behind : (n : ℕ) (ds : List ℕ) → 0 < n → AllDigits 10 ds → digits_value_after 10 n ds < 10 ^ 64
+-- digits after a number are those after its decimal
+decimal_after : (n : ℕ) (ds : List ℕ) → 0 < n → AllDigits 10 ds → digits_value_after 10 n ds < 10 ^ 64
     → decimal (digits_value_after 10 n ds) ≡ decimal n ++ ds
-decimal_behind n [] some d small = sym (append-nil (decimal n))
-decimal_behind n (c ∷ cs) some d small =
+decimal_after n [] some d small = sym (append-nil (decimal n))
+decimal_after n (c ∷ cs) some d small =
     let m : ℕ = n * 10 + digit_value c in
     let k = digit_value_digit c (digit_from_value c d.0) in
     let front : m / 10 ≡ n = omega (arith, d.0) in
     let end : 48 + m % 10 ≡ c = omega (arith, d.0) in
-    decimal_behind m cs (omega arith) d.1 small
+    decimal_after m cs (omega arith) d.1 small
     ∙ ap (λ (x : List ℕ). x ++ cs) (decimal_step_wide m (omega arith) (omega (arith, small, value_grows m cs)) ∙ (λ i. decimal (front i) ++ (end i ∷ [])))
     ∙ append_assoc (decimal n) (c ∷ []) cs
 
@@ -41,7 +41,7 @@ decimal_of_digits (c ∷ e ∷ cs) d some lead small =
     let k = digit_value_digit c (digit_from_value c d.0) in
     let no_zero : c ≡ 48 → ⊥ = λ z. omega (arith, lead z) in
     let is : 48 + (0 * 10 + digit_value c) ≡ c = omega arith in
-    decimal_behind (0 * 10 + digit_value c) (e ∷ cs) (omega arith) d.1 small
+    decimal_after (0 * 10 + digit_value c) (e ∷ cs) (omega arith) d.1 small
     ∙ ap (λ (x : List ℕ). x ++ (e ∷ cs)) (decimal_digit (0 * 10 + digit_value c) (omega (arith, d.0)) ∙ ap (λ (x : ℕ). x ∷ []) is)
 
 -- a word that is a number is its decimal, and has at most 20 digits

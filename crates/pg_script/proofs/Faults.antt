@@ -8,32 +8,32 @@ use Rattle.pg_script.specs.declared.error.ScriptError.{ScriptError}
 use Rattle.pg_script.specs.declared.error.ScriptError.TheVariants as error
 use Rattle.pg_script.specs.Answers.{Gives}
 use Rattle.pg_script.specs.Scripts.{Operations}
-use Rattle.pg_script.specs.ScriptFaults.{nothing, script_rules, IsScriptFault}
-use Rattle.pg_script.specs.Texts.{judge, said_at, reading, IsScript}
+use Rattle.pg_script.specs.ScriptFaults.{no_operations, script_rules, IsScriptFault}
+use Rattle.pg_script.specs.Texts.{line_judgement, operations_at, reading, IsScript}
 use Rattle.pg_script.proofs.Judging.{judge_exact}
 
 -- a script that is refused has that first fault
-pub fault : (bytes : List ℕ) (f : Fault) → reading bytes ≡ Err f → IsScriptFault bytes f
-fault bytes f e = read_fault script_rules judge said_at judge_exact nothing 1 (lines_of bytes) f e
+pub reading_err_is_fault : (bytes : List ℕ) (f : Fault) → reading bytes ≡ Err f → IsScriptFault bytes f
+reading_err_is_fault bytes f e = read_fault script_rules line_judgement operations_at judge_exact no_operations 1 (lines_of bytes) f e
 
 -- a script that is taken breaks no rule, and says what is read
-pub script : (bytes : List ℕ) (s : Operations) → reading bytes ≡ Ok s → IsScript bytes s
-script bytes s e =
-    let whole = read_whole script_rules judge said_at judge_exact nothing 1 (lines_of bytes) s e in record { whole = whole.0; says = whole.1 }
+pub reading_ok_is_script : (bytes : List ℕ) (s : Operations) → reading bytes ≡ Ok s → IsScript bytes s
+reading_ok_is_script bytes s e =
+    let whole = read_whole script_rules line_judgement operations_at judge_exact no_operations 1 (lines_of bytes) s e in record { whole = whole.0; says = whole.1 }
 
 -- the first fault is what reading gives
 pub only_fault : (bytes : List ℕ) (f : Fault) → IsScriptFault bytes f → reading bytes ≡ Err f
-only_fault bytes f first = only_lines_fault script_rules judge said_at judge_exact nothing 1 (lines_of bytes) f first
+only_fault bytes f first = only_lines_fault script_rules line_judgement operations_at judge_exact no_operations 1 (lines_of bytes) f first
 
 -- what a script says is what reading gives
 pub only_script : (bytes : List ℕ) (s : Operations) → IsScript bytes s → reading bytes ≡ Ok s
 only_script bytes s is_script =
-    only_whole script_rules judge said_at judge_exact nothing 1 (lines_of bytes) is_script.whole ∙ ap Ok (sym is_script.says)
+    only_whole script_rules line_judgement operations_at judge_exact no_operations 1 (lines_of bytes) is_script.whole ∙ ap Ok (sym is_script.says)
 
 -- what a reader answered is the first fault
 pub answered_fault : (bytes : List ℕ) (r : Result Operations ScriptError) → Gives r (reading bytes) → (f : Fault) → r ≡ Err (error.Fault f)
     → IsScriptFault bytes f
-answered_fault bytes r reads f e = let P : Result Operations ScriptError → Type 0 = λ x. Gives x (reading bytes) in fault bytes f (subst P e reads)
+answered_fault bytes r reads f e = let P : Result Operations ScriptError → Type 0 = λ x. Gives x (reading bytes) in reading_err_is_fault bytes f (subst P e reads)
 
 -- what holds of all that reading gives holds of what a reader answered
 pub answered : (P : Operations → Type 0) (bytes : List ℕ) (r : Result Operations ScriptError) → Gives r (reading bytes)

@@ -6,17 +6,17 @@ use Rattle.pg_lines.specs.Lines.{line_text, text_of}
 use Rattle.pg_script.specs.declared.script.ScriptOp.{ScriptOp}
 use Rattle.pg_script.specs.declared.statement.Statement.TheVariants.{Cores, Blocks, Done}
 use Rattle.pg_script.specs.Forms.{spelling}
-use Rattle.pg_script.specs.Printing.{op_line_of, printed}
+use Rattle.pg_script.specs.Printing.{op_line_of, script_text}
 use Rattle.pg_script.specs.Scripts.{Operations}
 
 ops_text : (os : List ScriptOp) → text_of (map (λ o. spelling (op_line_of o)) os) ≡ text_of (map spelling (map op_line_of os))
 ops_text [] = refl
 ops_text (o ∷ os) = ap (λ (t : List ℕ). line_text (spelling (op_line_of o)) ++ t) (ops_text os)
 
--- the counts, the operations and `done`, one behind the other
+-- the counts, the operations and `done`, one after the other
 pub parts_put : (s : Operations) (none counts ops whole : List ℕ) → none ≡ []
     → counts ≡ none ++ text_of (spelling (Cores s.cores) ∷ spelling (Blocks s.blocks) ∷ [])
-    → ops ≡ counts ++ text_of (map (λ o. spelling (op_line_of o)) s.ops) → whole ≡ ops ++ codes "done\n" → whole ≡ printed s
+    → ops ≡ counts ++ text_of (map (λ o. spelling (op_line_of o)) s.ops) → whole ≡ ops ++ codes "done\n" → whole ≡ script_text s
 parts_put s none counts ops whole is_none is_counts is_ops is_whole =
     let head : List ℕ = text_of (spelling (Cores s.cores) ∷ spelling (Blocks s.blocks) ∷ []) in
     let body : List ℕ = text_of (map spelling (map op_line_of s.ops)) in

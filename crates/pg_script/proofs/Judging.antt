@@ -11,8 +11,8 @@ use Rattle.pg_script.specs.Scripts.{Operations}
 use Rattle.pg_faults.specs.FirstFaults.{IsFirst, IsClean}
 use Rattle.pg_faults.specs.LineRules as faults
 use Rattle.pg_faults.specs.LineRules.{IsExact}
-use Rattle.pg_script.specs.ScriptFaults.{is_op, is_bounded, with_statement, statement_at, breaks, after, script_rules}
-use Rattle.pg_script.specs.Texts.{judged, judge, said_at}
+use Rattle.pg_script.specs.ScriptFaults.{is_op, is_bounded, with_statement, statement_at, line_breaks, operations_with_line, script_rules}
+use Rattle.pg_script.specs.Texts.{judgement, line_judgement, operations_at}
 use Rattle.pg_faults.proofs.LineFaults.{same_err, same_ok}
 
 -- the rules that are broken by a line in a form for its place, from whether its numbers are in bounds and whether there is no room for it
@@ -33,7 +33,7 @@ broken_by above (Some s) R = broken (is_bounded above s) (is_over above s) R
 
 -- the rules that a line breaks are those that what it says breaks
 breaks_is : (above : Operations) (n : ℕ) (line : List ℕ) (o : Option Statement) → statement_at n line ≡ o → (R : Rule)
-    → breaks above n line R ≡ broken_by above o R
+    → line_breaks above n line R ≡ broken_by above o R
 breaks_is above n line None e C1 = ap (λ o. option_map_or (λ s. false) o true) e
 breaks_is above n line None e C2 = ap (λ o. option_map_or (λ s. not (is_bounded above s)) o false) e
 breaks_is above n line None e C3 = ap (λ o. option_map_or (is_over above) o false) e
@@ -66,7 +66,7 @@ none_broken C3 = refl
 none_broken _ = refl
 
 -- the rule that is given is the first that is broken
-judged_first : (above : Operations) (o : Option Statement) (R : Rule) → judged above o ≡ Err R → IsFirst (broken_by above o) R
+judged_first : (above : Operations) (o : Option Statement) (R : Rule) → judgement above o ≡ Err R → IsFirst (broken_by above o) R
 judged_first above None R e = subst (IsFirst (broken_by above None)) (same_err C1 R e) (refl, from_C1 above)
 judged_first above (Some s) R e = at (is_bounded above s) (is_over above s) e
   where
@@ -76,7 +76,7 @@ judged_first above (Some s) R e = at (is_bounded above s) (is_over above s) e
     at true false e = absurd cc
 
 -- a line that is taken breaks no rule, and what it says is then the last that is said
-judged_clean : (above : Operations) (o : Option Statement) (more : Operations) → judged above o ≡ Ok more
+judged_clean : (above : Operations) (o : Option Statement) (more : Operations) → judgement above o ≡ Ok more
     → (more ≡ option_map_or (with_statement above) o above) × IsClean (broken_by above o)
 judged_clean above None more e = absurd cc
 judged_clean above (Some s) more e = at (is_bounded above s) (is_over above s) e
@@ -88,26 +88,26 @@ judged_clean above (Some s) more e = at (is_bounded above s) (is_over above s) e
     at true false e = (sym (same_ok _ _ e), none_broken)
 
 -- a line that is refused breaks the rule that is given, and no rule before it
-pub judge_first : (above : Operations) (n : ℕ) (line : List ℕ) (R : Rule) → judge above n line ≡ Err R → IsFirst (breaks above n line) R
+pub judge_first : (above : Operations) (n : ℕ) (line : List ℕ) (R : Rule) → line_judgement above n line ≡ Err R → IsFirst (line_breaks above n line) R
 judge_first above n line R e =
     let same = breaks_is above n line (statement_at n line) refl in
     let first = judged_first above (statement_at n line) R e in
     (same R ∙ first.0, λ Q h. first.1 Q (sym (same Q) ∙ h))
 
 -- a line that is taken breaks no rule, and is then the last of those above
-pub judge_clean : (above : Operations) (n : ℕ) (line : List ℕ) (more : Operations) → judge above n line ≡ Ok more
-    → (more ≡ after above n line) × IsClean (breaks above n line)
+pub judge_clean : (above : Operations) (n : ℕ) (line : List ℕ) (more : Operations) → line_judgement above n line ≡ Ok more
+    → (more ≡ operations_with_line above n line) × IsClean (line_breaks above n line)
 judge_clean above n line more e =
     let clean = judged_clean above (statement_at n line) more e in
     (clean.0, λ Q. breaks_is above n line (statement_at n line) refl Q ∙ clean.1 Q)
 
 -- judging a line is exact
-pub judge_exact : IsExact script_rules judge
+pub judge_exact : IsExact script_rules line_judgement
 judge_exact = record { first = judge_first; clean = judge_clean }
 
 -- what reading gives once line n was judged
 abbrev pub read_on : ℕ → Bool → Result Operations Rule → List (List ℕ) → (Operations → Result Operations Fault) → Result Operations Fault
-read_on n is_last j lines go_on = faults.read_on (Some C5) said_at n is_last j lines go_on
+read_on n is_last j lines go_on = faults.read_on (Some C5) operations_at n is_last j lines go_on
 
 -- what a line says that is taken: its numbers are in bounds, and there is room for it
 pub record IsTaken (above more : Operations) (o : Option Statement) : Type 0 where
@@ -117,7 +117,7 @@ pub record IsTaken (above more : Operations) (o : Option Statement) : Type 0 whe
   pub room : is_over above statement ≡ false
   pub more_is : more ≡ with_statement above statement
 
-pub judged_taken : (above more : Operations) (o : Option Statement) → judged above o ≡ Ok more → IsTaken above more o
+pub judged_taken : (above more : Operations) (o : Option Statement) → judgement above o ≡ Ok more → IsTaken above more o
 judged_taken above more None e = absurd cc
 judged_taken above more (Some s) e = at (is_bounded above s) (is_over above s) refl refl e
   where

@@ -21,12 +21,12 @@ use Rattle.pg_script.specs.declared.statement.Statement.TheVariants.{Cores, Bloc
 use Rattle.pg_script.specs.Forms.{op_words, spelling, IsShort, HasShortValue, HasShortNumbers}
 use Rattle.pg_script.specs.Reading.{statement_of}
 use Rattle.pg_script.specs.Scripts.{Operations, has_word, is_inside, IsWithin}
-use Rattle.pg_script.specs.ScriptFaults.{nothing, is_in_place, is_bounded, has_small_value, op_of, with_statement, placed_at, ends, is_done}
-use Rattle.pg_script.specs.Texts.{judge, judged, read_lines, reading}
-use Rattle.pg_script.specs.Printing.{form_of, op_line_of, lines_in, printed}
+use Rattle.pg_script.specs.ScriptFaults.{no_operations, is_in_place, is_bounded, has_small_value, op_of, with_statement, statement_in_place, is_done_line, is_done}
+use Rattle.pg_script.specs.Texts.{line_judgement, judgement, read_lines, reading}
+use Rattle.pg_script.specs.Printing.{form_of, op_line_of, lines_in, script_text}
 use Rattle.pg_script.proofs.Decimals.{decimal_word}
 use Rattle.pg_script.proofs.Judging.{is_over, read_on}
-use Rattle.pg_script.proofs.Spellings.{spelled}
+use Rattle.pg_script.proofs.Spellings.{statement_of-spelling}
 
 -- a digit is neither a space nor a newline
 digit_plain : (b : ℕ) → is_digit b ≡ true → is_plain b ≡ true
@@ -71,8 +71,8 @@ no_line = refl
 -- a written line is read as what it was written for
 written_again : (s : Statement) → HasShortNumbers s → statement_of (words_of (written s)) ≡ Some s
 written_again s short =
-    ap statement_of (words_written (spelling s) (spelling_plain s short) (λ e. absurd (cc (ap statement_of e, no_line, spelled s short))))
-    ∙ spelled s short
+    ap statement_of (words_written (spelling s) (spelling_plain s short) (λ e. absurd (cc (ap statement_of e, no_line, statement_of-spelling s short))))
+    ∙ statement_of-spelling s short
 
 -- below these lines a line is in a form for its place, with its numbers in bounds, and there is room for it
 record IsAdded (above : Operations) (n : ℕ) (s : Statement) : Type 0 where
@@ -82,18 +82,18 @@ record IsAdded (above : Operations) (n : ℕ) (s : Statement) : Type 0 where
   room : is_over above s ≡ false
 
 -- such a line is taken in as it is written
-judge_written : (above : Operations) (n : ℕ) (s : Statement) → IsAdded above n s → judge above n (written s) ≡ Ok (with_statement above s)
+judge_written : (above : Operations) (n : ℕ) (s : Statement) → IsAdded above n s → line_judgement above n (written s) ≡ Ok (with_statement above s)
 judge_written above n s added =
-    ap (λ o. judged above (placed_at n o)) (written_again s added.short)
-    ∙ ap (λ b. judged above (cond b (Some s) None)) added.in_place
+    ap (λ o. judgement above (statement_in_place n o)) (written_again s added.short)
+    ∙ ap (λ b. judgement above (cond b (Some s) None)) added.in_place
     ∙ ap (λ b. cond b (cond (is_over above s) (Err C3) (Ok (with_statement above s))) (Err C2)) added.bounded
     ∙ ap (λ b. cond b (Err C3) (Ok (with_statement above s))) added.room
 
--- reading goes on behind it, or ends with it
+-- reading goes on after it, or ends with it
 read_written : (above : Operations) (n : ℕ) (s : Statement) (lines : List (List ℕ)) → IsAdded above n s
     → read_lines above n (written s ∷ lines) ≡ read_on n (is_done s) (Ok (with_statement above s)) lines (λ more. read_lines more (n + 1) lines)
 read_written above n s lines added =
-    ap (λ j. read_on n (ends (written s)) j lines (λ more. read_lines more (n + 1) lines)) (judge_written above n s added)
+    ap (λ j. read_on n (is_done_line (written s)) j lines (λ more. read_lines more (n + 1) lines)) (judge_written above n s added)
     ∙ ap (λ b. read_on n b (Ok (with_statement above s)) lines (λ more. read_lines more (n + 1) lines))
     (ap (λ o. option_map_or is_done o false) (written_again s added.short))
 
@@ -151,16 +151,16 @@ ops_again s front (o ∷ rest) n far within split =
     ∙ ops_again s (front ++ o ∷ []) rest (n + 1) (omega (arith, far)) within (split ∙ sym (append_assoc front (o ∷ []) rest))
 
 -- the lines of what is within the bounds are read as that
-lines_again : (s : Operations) → IsWithin s → read_lines nothing 1 (map written (lines_in s)) ≡ Ok s
+lines_again : (s : Operations) → IsWithin s → read_lines no_operations 1 (map written (lines_in s)) ≡ Ok s
 lines_again s within =
     let ops : List (List ℕ) = map written (map op_line_of s.ops ++ Done ∷ []) in
-    read_written nothing 1 (Cores s.cores) (written (Blocks s.blocks) ∷ ops) (record {
+    read_written no_operations 1 (Cores s.cores) (written (Blocks s.blocks) ∷ ops) (record {
       short = omega (arith, within.few_cores);
       in_place = refl;
       bounded = and_from (nat_le 1 s.cores) (nat_le s.cores 32) (le-leb 1 s.cores within.some_core) (le-leb s.cores 32 within.few_cores);
       room = refl;
     })
-    ∙ read_written (record nothing { cores = s.cores }) 2 (Blocks s.blocks) ops (record {
+    ∙ read_written (record no_operations { cores = s.cores }) 2 (Blocks s.blocks) ops (record {
       short = omega (arith, within.few_blocks);
       in_place = refl;
       bounded = and_from (nat_le 1 s.blocks) (nat_le s.blocks 64) (le-leb 1 s.blocks within.some_block) (le-leb s.blocks 64 within.few_blocks);
@@ -190,6 +190,6 @@ map_written [] = refl
 map_written (l ∷ ls) = ap (λ (lines : List (List ℕ)). written l ∷ lines) (map_written ls)
 
 -- the text of what is within the bounds is read as that
-pub printed_reads : (s : Operations) → IsWithin s → reading (printed s) ≡ Ok s
+pub printed_reads : (s : Operations) → IsWithin s → reading (script_text s) ≡ Ok s
 printed_reads s within =
-    ap (read_lines nothing 1) (lines_written (map spelling (lines_in s)) (lines_plain s within) ∙ map_written (lines_in s)) ∙ lines_again s within
+    ap (read_lines no_operations 1) (lines_written (map spelling (lines_in s)) (lines_plain s within) ∙ map_written (lines_in s)) ∙ lines_again s within

@@ -11,10 +11,10 @@ use Rattle.pg_lines.specs.Lines.{line_text, text_of}
 use Rattle.pg_script.specs.declared.script.ScriptOp.{ScriptOp}
 use Rattle.pg_script.specs.declared.statement.Statement.TheVariants.{Cores, Blocks, Done}
 use Rattle.pg_script.specs.Forms.{op_words, spelling}
-use Rattle.pg_script.specs.Printing.{form_of, op_line_of, printed}
+use Rattle.pg_script.specs.Printing.{form_of, op_line_of, script_text}
 use Rattle.pg_script.specs.Scripts.{Operations, has_word, is_inside, IsWithin}
 
--- words, each with a byte behind it
+-- words, each with a byte after it
 abbrev words_length : List (List ℕ) → ℕ
 words_length [] = 0
 words_length (w ∷ ws) = length w + 1 + words_length ws
@@ -71,7 +71,7 @@ ops_length s (o ∷ os) within inside =
     )
 
 -- a script has 16,386 lines before `done` at most, of 26 bytes each at most
-pub printed_short : (s : Operations) → IsWithin s → length (printed s) ≤ 426008
+pub printed_short : (s : Operations) → IsWithin s → length (script_text s) ≤ 426008
 printed_short s within =
     let ops : List (List (List ℕ)) = map spelling (map op_line_of s.ops ++ Done ∷ []) in
     let cores : List (List ℕ) = spelling (Cores s.cores) in
@@ -89,5 +89,5 @@ printed_short s within =
     )
 
 -- the same of the bytes that are the text
-pub bytes_short : (s : Operations) (bytes : List ℕ) → IsWithin s → bytes ≡ printed s → length bytes ≤ 426008
+pub bytes_short : (s : Operations) (bytes : List ℕ) → IsWithin s → bytes ≡ script_text s → length bytes ≤ 426008
 bytes_short s bytes within e = omega (arith, ap length e, printed_short s within)

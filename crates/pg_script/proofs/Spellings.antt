@@ -11,25 +11,25 @@ use Rattle.pg_script.specs.declared.statement.Statement.TheVariants.{Cores, Bloc
 use Rattle.pg_script.specs.Forms.{op_words, spelling, IsShort, HasShortValue, HasShortNumbers}
 use Rattle.pg_script.specs.Numbers.{number_of}
 use Rattle.pg_script.specs.Reading.{plain_form, valued_form, op_form, op_line, count_of, done_line, statement_of}
-use Rattle.pg_script.proofs.Options.{told, nothing_found, mapped}
+use Rattle.pg_script.proofs.Options.{word_test_some, nothing_found, option_map-some}
 use Rattle.pg_script.proofs.Decimals.{number_found, number_again}
 
--- these words are the spelling of this form, behind a core and a block
+-- these words are the spelling of this form, after a core and a block
 abbrev IsForm : List ℕ → List (List ℕ) → OpForm → Type 0
 IsForm w ws form = ((core block : List ℕ) → core ∷ w ∷ block ∷ ws ≡ op_words core block form) × HasShortValue form
 
 -- a word that is read as a form without a value
 plain_found : (w : List ℕ) (form : OpForm) → plain_form w ≡ Some form → IsForm w [] form
 plain_found w form =
-    told (IsForm w []) w (codes "load") _ _ form (λ h e. subst (IsForm w []) (same_Some Load form e) (λ core block i. core ∷ h i ∷ block ∷ [], tt))
-    (told (IsForm w []) w (codes "evict") _ _ form (λ h e. subst (IsForm w []) (same_Some Evict form e) (λ core block i. core ∷ h i ∷ block ∷ [], tt))
+    word_test_some (IsForm w []) w (codes "load") _ _ form (λ h e. subst (IsForm w []) (same_Some Load form e) (λ core block i. core ∷ h i ∷ block ∷ [], tt))
+    (word_test_some (IsForm w []) w (codes "evict") _ _ form (λ h e. subst (IsForm w []) (same_Some Evict form e) (λ core block i. core ∷ h i ∷ block ∷ [], tt))
     (nothing_found form))
 
 -- words that are read as a form with a value
 valued_found : (w value : List ℕ) (form : OpForm) → valued_form w value ≡ Some form → IsForm w (value ∷ []) form
 valued_found w value form =
-    told (IsForm w (value ∷ [])) w (codes "store") _ _ form (λ h e.
-    mapped (λ n. Store n) (number_of value) form e (λ n is_n f.
+    word_test_some (IsForm w (value ∷ [])) w (codes "store") _ _ form (λ h e.
+    option_map-some (λ n. Store n) (number_of value) form e (λ n is_n f.
     let number = number_found value n is_n in
     subst (IsForm w (value ∷ [])) f (λ core block i. core ∷ h i ∷ block ∷ number.0 i ∷ [], number.1)))
     (nothing_found form)
@@ -43,7 +43,7 @@ form_found w (value ∷ v ∷ ws) form e = absurd cc
 abbrev IsSpelled : List (List ℕ) → Statement → Type 0
 IsSpelled ws s = (ws ≡ spelling s) × HasShortNumbers s
 
--- words behind `op`
+-- words after `op`
 op_found : (w : List ℕ) (ws : List (List ℕ)) (s : Statement) → w ≡ codes "op" → op_line ws ≡ Some s → IsSpelled (w ∷ ws) s
 op_found w [] s h e = absurd cc
 op_found w (c ∷ []) s h e = absurd cc
@@ -51,7 +51,7 @@ op_found w (c ∷ v ∷ []) s h e = absurd cc
 op_found w (c ∷ v ∷ b ∷ ws) s h e =
     option_and_then_some _ (number_of c) s e (λ core is_core e.
     option_and_then_some _ (number_of b) s e (λ block is_block e.
-    mapped _ (op_form v ws) s e (λ form is_form f.
+    option_map-some _ (op_form v ws) s e (λ form is_form f.
     let core_word = number_found c core is_core in
     let block_word = number_found b block is_block in
     let words = form_found v ws form is_form in
@@ -66,22 +66,22 @@ count_found [] n e = absurd cc
 count_found (w ∷ []) n e = let number = number_found w n e in ((λ i. number.0 i ∷ []), number.1)
 count_found (w ∷ v ∷ ws) n e = absurd cc
 
--- words behind `done`
+-- words after `done`
 done_found : (w : List ℕ) (ws : List (List ℕ)) (s : Statement) → w ≡ codes "done" → done_line ws ≡ Some s → IsSpelled (w ∷ ws) s
 done_found w [] s h e = subst (IsSpelled (w ∷ [])) (same_Some Done s e) ((λ i. h i ∷ []), tt)
 done_found w (v ∷ ws) s h e = absurd cc
 
 -- a line that is read is spelled so
-pub found : (ws : List (List ℕ)) (s : Statement) → statement_of ws ≡ Some s → (ws ≡ spelling s) × HasShortNumbers s
-found [] s e = absurd cc
-found (w ∷ ws) s e =
+pub statement_of-some : (ws : List (List ℕ)) (s : Statement) → statement_of ws ≡ Some s → (ws ≡ spelling s) × HasShortNumbers s
+statement_of-some [] s e = absurd cc
+statement_of-some (w ∷ ws) s e =
     let P : Statement → Type 0 = IsSpelled (w ∷ ws) in
-    told P w (codes "cores") _ _ s (λ h e.
-    mapped (λ n. Cores n) (count_of ws) s e (λ n is_n f. let count = count_found ws n is_n in subst P f ((λ i. h i ∷ count.0 i), count.1)))
-    (told P w (codes "blocks") _ _ s (λ h e.
-    mapped (λ n. Blocks n) (count_of ws) s e (λ n is_n f. let count = count_found ws n is_n in subst P f ((λ i. h i ∷ count.0 i), count.1)))
-    (told P w (codes "op") _ _ s (op_found w ws s)
-    (told P w (codes "done") _ _ s (done_found w ws s)
+    word_test_some P w (codes "cores") _ _ s (λ h e.
+    option_map-some (λ n. Cores n) (count_of ws) s e (λ n is_n f. let count = count_found ws n is_n in subst P f ((λ i. h i ∷ count.0 i), count.1)))
+    (word_test_some P w (codes "blocks") _ _ s (λ h e.
+    option_map-some (λ n. Blocks n) (count_of ws) s e (λ n is_n f. let count = count_found ws n is_n in subst P f ((λ i. h i ∷ count.0 i), count.1)))
+    (word_test_some P w (codes "op") _ _ s (op_found w ws s)
+    (word_test_some P w (codes "done") _ _ s (done_found w ws s)
     (nothing_found s)))) e
 
 -- what an operation is is read again
@@ -99,8 +99,8 @@ op_again core block Evict c b v =
     ∙ ap (option_and_then (λ n. Some (Op core n Evict))) (number_again block b)
 
 -- a line that is spelled so is read again
-pub spelled : (s : Statement) → HasShortNumbers s → statement_of (spelling s) ≡ Some s
-spelled (Cores n) h = ap (option_map (λ m. Cores m)) (number_again n h)
-spelled (Blocks n) h = ap (option_map (λ m. Blocks m)) (number_again n h)
-spelled (Op core block form) h = op_again core block form h.0 h.1 h.2
-spelled Done h = refl
+pub statement_of-spelling : (s : Statement) → HasShortNumbers s → statement_of (spelling s) ≡ Some s
+statement_of-spelling (Cores n) h = ap (option_map (λ m. Cores m)) (number_again n h)
+statement_of-spelling (Blocks n) h = ap (option_map (λ m. Blocks m)) (number_again n h)
+statement_of-spelling (Op core block form) h = op_again core block form h.0 h.1 h.2
+statement_of-spelling Done h = refl

@@ -16,11 +16,11 @@ use Rattle.pg_script.specs.declared.statement.Statement.TheVariants.{Cores, Bloc
 use Rattle.pg_script.specs.Forms.{spelling}
 use Rattle.pg_script.specs.Reading.{statement_of}
 use Rattle.pg_script.specs.Scripts.{Operations, has_word, is_inside, IsWithin}
-use Rattle.pg_script.specs.ScriptFaults.{nothing, is_in_place, is_bounded, has_small_value, op_of, with_statement, placed_at, statement_at, ends, is_done}
-use Rattle.pg_script.specs.Texts.{judge, read_lines, reading}
+use Rattle.pg_script.specs.ScriptFaults.{no_operations, is_in_place, is_bounded, has_small_value, op_of, with_statement, statement_in_place, statement_at, is_done_line, is_done}
+use Rattle.pg_script.specs.Texts.{line_judgement, read_lines, reading}
 use Rattle.pg_script.specs.Printing.{form_of, op_line_of, lines_in}
 use Rattle.pg_faults.proofs.LineFaults.{same_ok}
-use Rattle.pg_script.proofs.Spellings.{found}
+use Rattle.pg_script.proofs.Spellings.{statement_of-some}
 use Rattle.pg_script.proofs.Judging.{is_over, judged_taken, read_on}
 
 -- a line that is taken is in a form for its place
@@ -30,23 +30,23 @@ pub record IsLine (above more : Operations) (n : ℕ) (line : List ℕ) (s : Sta
   pub bounded : is_bounded above s ≡ true
   pub room : is_over above s ≡ false
   pub more_is : more ≡ with_statement above s
-  pub ended : ends line ≡ is_done s
+  pub ended : is_done_line line ≡ is_done s
 
 -- what a line says that is in a form for its place
-placed : (n : ℕ) (o : Option Statement) (s : Statement) → placed_at n o ≡ Some s → (o ≡ Some s) × (is_in_place n s ≡ true)
+placed : (n : ℕ) (o : Option Statement) (s : Statement) → statement_in_place n o ≡ Some s → (o ≡ Some s) × (is_in_place n s ≡ true)
 placed n None s e = absurd cc
 placed n (Some t) s e =
     let found = cond_some (is_in_place n t) t s e in
     (ap Some found.1, subst (λ (x : Statement). is_in_place n x ≡ true) found.1 found.0)
 
-pub line_taken : (above more : Operations) (n : ℕ) (line : List ℕ) → judge above n line ≡ Ok more → (s : Statement) × IsLine above more n line s
+pub line_taken : (above more : Operations) (n : ℕ) (line : List ℕ) → line_judgement above n line ≡ Ok more → (s : Statement) × IsLine above more n line s
 line_taken above more n line e =
     let taken = judged_taken above more (statement_at n line) e in
     let s : Statement = taken.statement in
     let at_place = placed n (statement_of (words_of line)) s taken.is_some in (
       s,
       record {
-        words = (found (words_of line) s at_place.0).0;
+        words = (statement_of-some (words_of line) s at_place.0).0;
         in_place = at_place.1;
         bounded = taken.bounded;
         room = taken.room;
@@ -65,9 +65,9 @@ pub record IsStep (above : Operations) (n : ℕ) (line : List ℕ) (lines : List
 
 pub step_taken : (above : Operations) (n : ℕ) (line : List ℕ) (lines : List (List ℕ)) (whole : Operations) → read_lines above n (line ∷ lines) ≡ Ok whole
     → IsStep above n line lines whole
-step_taken above n line lines whole e = at lines (judge above n line) (ends line) refl refl e
+step_taken above n line lines whole e = at lines (line_judgement above n line) (is_done_line line) refl refl e
   where
-    at : (lines : List (List ℕ)) (j : Result Operations Rule) (b : Bool) → judge above n line ≡ j → ends line ≡ b
+    at : (lines : List (List ℕ)) (j : Result Operations Rule) (b : Bool) → line_judgement above n line ≡ j → is_done_line line ≡ b
         → read_on n b j lines (λ more. read_lines more (n + 1) lines) ≡ Ok whole → IsStep above n line lines whole
     at lines (Err R) b j h e = absurd cc
     at [] (Ok more) true j h e =
@@ -130,7 +130,7 @@ op_within above core block form within bounded room =
     not_full : length above.ops ≡ 16384 → ⊥
     not_full e = absurd (cc (room, eq-eqb (length above.ops) 16384 e))
 
--- one more operation before those behind it
+-- one more operation before those after it
 ops_before : (above : Operations) (core block : ℕ) (form : OpForm) (line : List ℕ) (lines : List (List ℕ)) (whole : Operations)
     → words_of line ≡ spelling (Op core block form) → AreOps (with_statement above (Op core block form)) lines whole → AreOps above (line ∷ lines) whole
 ops_before above core block form line lines whole words ops =
@@ -214,10 +214,10 @@ pub record AreLines (lines : List (List ℕ)) (whole : Operations) : Type 0 wher
   pub words : map words_of lines ≡ map spelling (lines_in whole)
   pub within : IsWithin whole
 
-pub script_read : (lines : List (List ℕ)) (whole : Operations) → read_lines nothing 1 lines ≡ Ok whole → AreLines lines whole
+pub script_read : (lines : List (List ℕ)) (whole : Operations) → read_lines no_operations 1 lines ≡ Ok whole → AreLines lines whole
 script_read [] whole e = absurd cc
 script_read (line ∷ lines) whole e =
-    let step = step_taken nothing 1 line lines whole e in
+    let step = step_taken no_operations 1 line lines whole e in
     at step.statement step.more step.is_line step.goes_on
   where
     joined : (cores : ℕ) → words_of line ≡ spelling (Cores cores) → AreBlocks cores lines whole → AreLines (line ∷ lines) whole
@@ -229,7 +229,7 @@ script_read (line ∷ lines) whole e =
           within = below.ops.within;
         }
 
-    at : (s : Statement) (more : Operations) → IsLine nothing more 1 line s → (is_done s ≡ false → read_lines more 2 lines ≡ Ok whole)
+    at : (s : Statement) (more : Operations) → IsLine no_operations more 1 line s → (is_done s ≡ false → read_lines more 2 lines ≡ Ok whole)
         → AreLines (line ∷ lines) whole
     at (Cores count) more taken goes_on =
         let range = in_range 32 count taken.bounded in

@@ -24,8 +24,8 @@ abbrev pub lines_in : Operations → List Statement
 lines_in s = line.Cores s.cores ∷ line.Blocks s.blocks ∷ map op_line_of s.ops ++ line.Done ∷ []
 
 -- the text of a script
-abbrev pub printed : Operations → List ℕ
-printed s = text_of (map spelling (lines_in s))
+abbrev pub script_text : Operations → List ℕ
+script_text s = text_of (map spelling (lines_in s))
 
 -- the text is these bytes, or they lack its last newline
 abbrev pub IsTextOf : List ℕ → List ℕ → Type 0

@@ -16,23 +16,23 @@ plain_form w = if bytes_eq w (codes "load") then Some Load else if bytes_eq w (c
 abbrev pub valued_form : List ℕ → List ℕ → Option OpForm
 valued_form w value = if bytes_eq w (codes "store") then option_map (λ n. Store n) (number_of value) else None
 
--- what an operation is, by its word and the words behind its block
+-- what an operation is, by its word and the words after its block
 abbrev pub op_form : List ℕ → List (List ℕ) → Option OpForm
 op_form w [] = plain_form w
 op_form w (value ∷ []) = valued_form w value
 op_form w _ = None
 
--- an operation, by the words of its core, of what it is and of its block, and the words behind these
+-- an operation, by the words of its core, of what it is and of its block, and the words after these
 abbrev pub op_of_words : List ℕ → List ℕ → List ℕ → List (List ℕ) → Option Statement
 op_of_words core w block ws =
     option_and_then (λ c. option_and_then (λ b. option_map (λ f. Op c b f) (op_form w ws)) (number_of block)) (number_of core)
 
--- a line that begins with `op`, by the words behind that
+-- a line that begins with `op`, by the words after that
 abbrev pub op_line : List (List ℕ) → Option Statement
 op_line (core ∷ w ∷ block ∷ ws) = op_of_words core w block ws
 op_line _ = None
 
--- the number of a line that has no other word behind its first
+-- the number of a line that has no other word after its first
 abbrev pub count_of : List (List ℕ) → Option ℕ
 count_of (n ∷ []) = number_of n
 count_of _ = None

@@ -17,8 +17,8 @@ use Rattle.pg_script.specs.Reading.{statement_of}
 use Rattle.pg_script.specs.Scripts.{Operations}
 
 -- what no line says
-abbrev pub nothing : Operations
-nothing = record { cores = 0; blocks = 0; ops = [] }
+abbrev pub no_operations : Operations
+no_operations = record { cores = 0; blocks = 0; ops = [] }
 
 -- the forms for a place: `cores` in line 1, `blocks` in line 2, and then operations and `done`
 abbrev pub is_in_place : ℕ → Statement → Bool
@@ -62,23 +62,23 @@ with_statement above (Op core block form) = record above { ops = above.ops ++ re
 with_statement above Done = above
 
 -- a line that is in a form for its place, and what it says
-abbrev pub placed_at : ℕ → Option Statement → Option Statement
-placed_at n None = None
-placed_at n (Some s) = if is_in_place n s then Some s else None
+abbrev pub statement_in_place : ℕ → Option Statement → Option Statement
+statement_in_place n None = None
+statement_in_place n (Some s) = if is_in_place n s then Some s else None
 
 abbrev pub statement_at : ℕ → List ℕ → Option Statement
-statement_at n line = placed_at n (statement_of (words_of line))
+statement_at n line = statement_in_place n (statement_of (words_of line))
 
 -- whether line n breaks a rule, below these lines
-abbrev pub breaks : Operations → ℕ → List ℕ → Rule → Bool
-breaks above n line C1 = option_map_or (λ s. false) (statement_at n line) true
-breaks above n line C2 = option_map_or (λ s. not (is_bounded above s)) (statement_at n line) false
-breaks above n line C3 = option_map_or (λ s. is_op s && length above.ops == 16384) (statement_at n line) false
-breaks above n line R = false
+abbrev pub line_breaks : Operations → ℕ → List ℕ → Rule → Bool
+line_breaks above n line C1 = option_map_or (λ s. false) (statement_at n line) true
+line_breaks above n line C2 = option_map_or (λ s. not (is_bounded above s)) (statement_at n line) false
+line_breaks above n line C3 = option_map_or (λ s. is_op s && length above.ops == 16384) (statement_at n line) false
+line_breaks above n line R = false
 
 -- what the lines say, with line n below them; one that isn't in a form for its place says nothing
-abbrev pub after : Operations → ℕ → List ℕ → Operations
-after above n line = option_map_or (with_statement above) (statement_at n line) above
+abbrev pub operations_with_line : Operations → ℕ → List ℕ → Operations
+operations_with_line above n line = option_map_or (with_statement above) (statement_at n line) above
 
 -- whether a line is `done`
 abbrev pub is_done : Statement → Bool
@@ -87,16 +87,16 @@ is_done (Blocks count) = false
 is_done (Op core block form) = false
 is_done Done = true
 
-abbrev pub ends : List ℕ → Bool
-ends line = option_map_or is_done (statement_of (words_of line)) false
+abbrev pub is_done_line : List ℕ → Bool
+is_done_line line = option_map_or is_done (statement_of (words_of line)) false
 
 -- the rules of the lines of a script. C4 is broken after the last line where there is no `done`, and C5 after `done` where there is anything
 abbrev pub script_rules : LineRules Operations
-script_rules = record { breaks = breaks; after = after; ends = ends; missing = C4; past = Some C5 }
+script_rules = record { breaks = line_breaks; after = operations_with_line; ends = is_done_line; missing = C4; past = Some C5 }
 
 -- line L of the script breaks rule R
 abbrev pub Breaks : List ℕ → ℕ → Rule → Type 0
-Breaks bytes L R = BreaksIn script_rules nothing 1 (lines_of bytes) L R
+Breaks bytes L R = BreaksIn script_rules no_operations 1 (lines_of bytes) L R
 
 -- the first fault of a script
 abbrev pub IsScriptFault : List ℕ → Fault → Type 0

@@ -9,7 +9,7 @@ ghost use Rattle.pg_script.specs.Reading.{statement_of};
 ghost use Rattle.pg_script.specs.Scripts.{Operations, IsWithin};
 ghost use Rattle.pg_script.specs.ScriptFaults.{IsScriptFault};
 ghost use Rattle.pg_script.specs.Texts.{reading, IsScript};
-ghost use Rattle.pg_script.specs.Printing.{lines_in, printed, IsTextOf};
+ghost use Rattle.pg_script.specs.Printing.{lines_in, script_text, IsTextOf};
 
 use pg_perm::{Op, Rule};
 
@@ -28,14 +28,14 @@ pub fn first_fault_is_exact()
 /// The lines of a script are, word for word, those of what it says, and so its bytes are the text of that.
 pub fn scripts_are_kept()
     ensures kept { (bytes : List ℕ) (s : Operations) → reading bytes ≡ Ok s → map words_of (lines_of bytes) ≡ map spelling (lines_in s) }
-    ensures text { (bytes : List ℕ) (s : Operations) → reading bytes ≡ Ok s → IsTextOf bytes (printed s) }
+    ensures text { (bytes : List ℕ) (s : Operations) → reading bytes ≡ Ok s → IsTextOf bytes (script_text s) }
     ensures within { (bytes : List ℕ) (s : Operations) → reading bytes ≡ Ok s → IsWithin s }
 {}
 
 /// The text of what is within the bounds is read as the same, and has at most 426,008 bytes.
 pub fn printing_is_exact()
-    ensures back { (s : Operations) → IsWithin s → reading (printed s) ≡ Ok s }
-    ensures short { (s : Operations) → IsWithin s → length (printed s) ≤ 426008 }
+    ensures back { (s : Operations) → IsWithin s → reading (script_text s) ≡ Ok s }
+    ensures short { (s : Operations) → IsWithin s → length (script_text s) ≤ 426008 }
 {}
 
 /// What the rules say of small scripts, one for each rule but C3 at least, and what one says that breaks none.

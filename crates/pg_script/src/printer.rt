@@ -2,7 +2,7 @@ ghost use Rattle.std.specs.Prelude.{◌≡◌, ◌≤◌, [], ◌∷◌, ◌++�
 ghost use Rattle.std.specs.String.{string_bytes};
 ghost use Rattle.pg_lines.specs.Lines.{line_text, text_of};
 ghost use Rattle.pg_script.specs.Forms.{spelling};
-ghost use Rattle.pg_script.specs.Printing.{printed, op_line_of};
+ghost use Rattle.pg_script.specs.Printing.{script_text, op_line_of};
 ghost use Rattle.pg_script.specs.Texts.{reading};
 
 use crate::script::{Script, ScriptOp};
@@ -42,7 +42,7 @@ fn put_ops(text: &mut String, ops: &[ScriptOp]) -> Result<(), AllocError>
 
 /// The text of a script, of which each line ends with a newline. It is read as the same script.
 pub fn print(alloc: Global, script: &Script) -> Result<Vec<u8>, AllocError>
-    ensures exact { IfOk result (λ text. text.items ≡ printed script.now) }
+    ensures exact { IfOk result (λ text. text.items ≡ script_text script.now) }
     ensures read_back { IfOk result (λ text. reading text.items ≡ Ok script.now) }
     ensures short { IfOk result (λ text. length text.items ≤ 426008) }
 {

@@ -2,7 +2,7 @@ ghost use Rattle.std.specs.Prelude.{◌≡◌, IfOk, IsTrue};
 ghost use Rattle.pg_faults.specs.Answers.{Judges};
 ghost use Rattle.pg_script.specs.Scripts.{IsWithin};
 ghost use Rattle.pg_script.specs.ScriptFaults as faults;
-ghost use Rattle.pg_script.specs.Texts.{judged};
+ghost use Rattle.pg_script.specs.Texts.{judgement};
 
 use crate::script::{Script, ScriptOp, ScriptOps};
 use crate::statement::{OpForm, Statement};
@@ -53,7 +53,7 @@ fn op_of(form: OpForm) -> Op
 impl Reader {
     /// No lines.
     pub fn new(alloc: Global) -> Reader
-        ensures { result ≡ faults.nothing }
+        ensures { result ≡ faults.no_operations }
     {
         Reader {
             cores: 0,
@@ -99,7 +99,7 @@ impl Reader {
 
     /// Takes in what the next line says, or tells which of the rules C1 to C3 it breaks first.
     pub fn with_line(self, statement: Option<Statement>) -> Result<Reader, LineError<Rule>>
-        ensures { Judges result (judged self statement) }
+        ensures { Judges result (judgement self statement) }
     {
         let Some(statement) = statement else {
             return Err(LineError::Breaks(Rule::C1));

@@ -61,7 +61,7 @@ fn op_line(words: &Words) -> Option<Statement>
     op_of_words(core, word, block, &rest)
 }
 
-/// The number of a line that has no other word behind its first.
+/// The number of a line that has no other word after its first.
 fn count_of(words: &Words) -> Option<u128>
     ensures { result ≡ forms.count_of words.now }
 {

@@ -83,7 +83,7 @@ const STARTS: &[Judged] = &[
     ("cores 1\nblocks 1 1\ndone\n", (2, "C1")),
 ];
 
-/// What stands behind `HEAD`.
+/// What stands after `HEAD`.
 const OPERATIONS: &[Judged] = &[
     ("done\n", (0, "ok")),
     (
@@ -154,7 +154,7 @@ const OPERATIONS: &[Judged] = &[
     ("op 0 load 0\ndone\nop 1 load 1\ndone\n", (5, "C5")),
 ];
 
-/// What stands behind 16,384 operations of one core on one block.
+/// What stands after 16,384 operations of one core on one block.
 const LAST_LINES: &[Judged] = &[
     ("done\n", (0, "ok")),
     ("op 0 load 0\ndone\n", (16387, "C3")),

@@ -4,7 +4,7 @@ ghost use Rattle.pg_lines.specs.Lines.{lines_of, words_of};
 ghost use Rattle.pg_script.specs.Forms.{spelling};
 ghost use Rattle.pg_script.specs.ScriptFaults.{IsScriptFault};
 ghost use Rattle.pg_script.specs.Texts.{reading, IsScript};
-ghost use Rattle.pg_script.specs.Printing.{lines_in, printed, IsTextOf};
+ghost use Rattle.pg_script.specs.Printing.{lines_in, script_text, IsTextOf};
 ghost use Rattle.pg_script.specs.Scripts.{IsWithin};
 ghost use Rattle.pg_script.specs.Answers.{Gives};
 
@@ -26,7 +26,7 @@ pub fn read(alloc: Global, bytes: &[u8]) -> Result<Script, ScriptError>
     ensures fault { (f : Fault) → result ≡ Err (ScriptError.Fault f) → IsScriptFault bytes.now f }
     ensures script { IfOk result (λ s. IsScript bytes.now s) }
     ensures kept { IfOk result (λ s. map words_of (lines_of bytes.now) ≡ map spelling (lines_in s)) }
-    ensures text { IfOk result (λ s. IsTextOf bytes.now (printed s)) }
+    ensures text { IfOk result (λ s. IsTextOf bytes.now (script_text s)) }
     ensures within { IfOk result (λ s. IsWithin s) }
 {
     read_lines(alloc, bytes)

@@ -31,23 +31,23 @@ pub true_not : (b : Bool) → not b ≡ true → b ≡ false
 true_not true h = absurd cc
 true_not false h = refl
 
-pub and_both : (a b : Bool) → a ≡ true → b ≡ true → (a && b) ≡ true
-and_both true b h g = g
-and_both false b h g = absurd cc
+pub and_of_both : (a b : Bool) → a ≡ true → b ≡ true → (a && b) ≡ true
+and_of_both true b h g = g
+and_of_both false b h g = absurd cc
 
-pub one_of : (a b : Bool) → (a || b) ≡ true → (a ≡ true) ⊎ (b ≡ true)
-one_of true b h = inl refl
-one_of false b h = inr h
+pub or_true : (a b : Bool) → (a || b) ≡ true → (a ≡ true) ⊎ (b ≡ true)
+or_true true b h = inl refl
+or_true false b h = inr h
 
 -- "where a, b" is kept and a is so
 pub where_so : (a b : Bool) → (not a || b) ≡ true → a ≡ true → b ≡ true
 where_so true b h e = h
 where_so false b h e = absurd cc
 
-pub or_so : (a b : Bool) → (a ≡ true) ⊎ (b ≡ true) → (a || b) ≡ true
-or_so true b k = refl
-or_so false b (inl h) = absurd cc
-or_so false b (inr h) = h
+pub or_of_either : (a b : Bool) → (a ≡ true) ⊎ (b ≡ true) → (a || b) ≡ true
+or_of_either true b k = refl
+or_of_either false b (inl h) = absurd cc
+or_of_either false b (inr h) = h
 
 pub one_three : (a b c : Bool) → (a || b || c) ≡ true → (a ≡ true) ⊎ ((b ≡ true) ⊎ (c ≡ true))
 one_three true b c h = inl refl

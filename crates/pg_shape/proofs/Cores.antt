@@ -32,17 +32,17 @@ use Rattle.pg_perm.specs.declared.fault.Rule.TheVariants.{S1, S5, S7, S10, S11, 
 use Rattle.pg_perm.specs.Classes.{is_request, is_forward, is_reply}
 use Rattle.pg_perm.specs.Drafts.{has_cache, has_dir, has_message, has_core_form, has_core, has_take, has_row_form, has_row, IsWellFormed}
 use Rattle.pg_terms.specs.Terms.{is_out, is_shared, is_owner, is_none_perm, is_read_perm, is_write_perm, same_event, is, is_other, is_write_owner, is_read_owner, cache_is, out, shared, request_of, lists_state, lists, core_row}
-use Rattle.pg_terms.specs.Due.{same_reply, is_row_for, is_row_from, is_answer, row_brings, is_load_reply, is_store_reply}
+use Rattle.pg_terms.specs.Due.{same_reply, is_row_for, is_row_from, is_answer, row_brings_reply, is_load_reply, is_store_reply}
 use Rattle.pg_terms.proofs.Same.{event_equal, reply_equal}
 use Rattle.pg_shape.specs.TextRules.{lacks_requests}
 use Rattle.pg_shape.specs.CacheRules.{has_wrong_perm}
-use Rattle.pg_shape.specs.CoreRules.{is_hit, leaves_out, asks_needlessly, hits_without_perm, moves_at_load, class_of, asks_otherwise, is_asked, names, names_twice, names_another, misses, misses_below, misses_reply, names_wrongly, has_wrong_replies, is_no_load_final, is_dirty_writer, stays, moves_at_store, is_no_store_final, ends_differ, ends_wrongly, breaks_s7, parts, asks_class, leaves_by_another, leaves_wrongly, is_from_cache, is_unclean, ends_unclean}
+use Rattle.pg_shape.specs.CoreRules.{is_hit, leaves_out, asks_needlessly, hits_without_perm, moves_at_load, class_of, asks_otherwise, is_asked, names_reply, names_twice, names_another, misses_reply_name, misses_below, misses_reply, names_wrongly, has_wrong_replies, is_no_load_final, is_dirty_writer, stays_at_store, moves_at_store, is_no_store_final, ends_differ, ends_wrongly, breaks_s7, tells_apart, asks_class, leaves_by_another, leaves_wrongly, is_from_cache, is_unclean, ends_unclean}
 use Rattle.pg_terms.specs.Rows.{allows, store_next, pair_under, final_under}
 use Rattle.pg_shape.specs.ShapeFaults.{HasShape}
 use Rattle.pg_shape.specs.Shaped.{HasCores}
 use Rattle.pg_shape.proofs.Bools.{three_not, three_and, and_not}
 use Rattle.pg_shape.proofs.Searches.{all_at, not_both, any_get, any_not, find_get, position_get, map_or_get, some_of}
-use Rattle.pg_shape.proofs.Shaped.{text_keeps, cache_keeps, core_keeps, has_core_row, is_one}
+use Rattle.pg_shape.proofs.Shaped.{text_keeps, cache_keeps, core_keeps, has_core_row, is_then_some}
 
 -- Tests, lists and options
 
@@ -113,7 +113,7 @@ reply_below : (d : Draft) (m : ℕ) → has_message is_reply d m ≡ true → m 
 reply_below d m h = let (x, e, p) = map_or_get (λ x. is_reply x.class) (slice_get d.messages m) h in slice_get_within d.messages m x e
 
 -- what a row line brings is a message
-brought_below : (d : Draft) → IsWellFormed d → (n m : ℕ) (f : RowForm) → has_row_form d f ≡ true → row_brings d n f m ≡ true → m < length d.messages
+brought_below : (d : Draft) → IsWellFormed d → (n m : ℕ) (f : RowForm) → has_row_form d f ≡ true → row_brings_reply d n f m ≡ true → m < length d.messages
 brought_below d w n m (form.Ask request who (action.Reply k)) h b =
     let parts = and_parts (has_message is_request d request) (has_message is_reply d k) h in
     reply_below d m (subst (λ i. has_message is_reply d i ≡ true) (eqb-true k m b) parts.1)
@@ -121,20 +121,20 @@ brought_below d w n m (form.Ask request who (action.Forward f)) h b =
     let (k, t, e, answers) = any_get (is_answer d n f m) d.takes b in
     let answer = three_and (t.forward == f) (is t.reply m) (lists d n t.state) answers in
     let sends : option_map_or (has_message is_reply d) t.reply true ≡ true = take_formed d w k t e in
-    reply_below d m (subst (λ o. option_map_or (has_message is_reply d) o true ≡ true) (is_one t.reply m answer.1) sends)
+    reply_below d m (subst (λ o. option_map_or (has_message is_reply d) o true ≡ true) (is_then_some t.reply m answer.1) sends)
 brought_below d w n m (form.Ask request who action.Count) h b = absurd cc
 brought_below d w n m (form.Evict who left) h b = absurd cc
 
 -- a reply that a load may get is a message
 load_reply_below : (d : Draft) → IsWellFormed d → (m : ℕ) → is_load_reply d m ≡ true → m < length d.messages
 load_reply_below d w m h =
-    let (k, r, e, for) = any_get (λ r. is_row_for d Read r.form && row_brings d r.dir r.form m) d.rows h in
+    let (k, r, e, for) = any_get (λ r. is_row_for d Read r.form && row_brings_reply d r.dir r.form m) d.rows h in
     brought_below d w r.dir m r.form (row_formed d w k r e) (and_parts (is_row_for d Read r.form) _ for).1
 
 -- a reply that a store may get is a message
 store_reply_below : (d : Draft) → IsWellFormed d → (m : ℕ) (who : Who) → is_store_reply d who m ≡ true → m < length d.messages
 store_reply_below d w m who h =
-    let (k, r, e, from) = any_get (λ r. is_row_from d Write who r.form && row_brings d r.dir r.form m) d.rows h in
+    let (k, r, e, from) = any_get (λ r. is_row_from d Write who r.form && row_brings_reply d r.dir r.form m) d.rows h in
     brought_below d w r.dir m r.form (row_formed d w k r e) (and_parts (is_row_from d Write who r.form) _ from).1
 
 -- a reply that a core may get is a message
@@ -149,7 +149,7 @@ asked_below d w r Evict m h = absurd cc
 
 -- an owner that may write goes to a state that is none or is clean, or that the directory tells apart
 abbrev hits_to : Draft → ℕ → ℕ → Bool
-hits_to d s t = cache_is is_write_owner d s && (not (cache_is is_dirty_writer d t) || list_any (parts s t) d.dirs)
+hits_to d s t = cache_is is_write_owner d s && (not (cache_is is_dirty_writer d t) || list_any (tells_apart s t) d.dirs)
 
 -- no rule is broken by a core line of this state, event and form
 record Keeps (d : Draft) (s : ℕ) (event : Event) (form : CoreForm) : Type 0 where
@@ -235,33 +235,33 @@ asks d h s event c form keeps stays_in e lacks = let (m, r) = has_request d h ev
 
 -- where no reply below a number is missed, each that a core may get is named
 named_below : (d : Draft) (r : Role) (event : Event) (pairs : List Pair) (n m : ℕ) → misses_below d r event pairs n ≡ false → m < n
-    → is_asked d r event (reply.Reply m) ≡ true → names pairs (reply.Reply m) ≡ true
+    → is_asked d r event (reply.Reply m) ≡ true → names_reply pairs (reply.Reply m) ≡ true
 named_below d r event pairs zero m h lt asked = absurd (omega (arith, lt))
 named_below d r event pairs (suc n) m h lt asked =
-    let none = or_parts (misses d r event pairs (reply.Reply n)) (misses_below d r event pairs n) h in
+    let none = or_parts (misses_reply_name d r event pairs (reply.Reply n)) (misses_below d r event pairs n) h in
     at (cases_lt m n) none.0 (named_below d r event pairs n m none.1)
   where
-    at : (m < n) ⊎ (n ≤ m) → misses d r event pairs (reply.Reply n) ≡ false
-        → (m < n → is_asked d r event (reply.Reply m) ≡ true → names pairs (reply.Reply m) ≡ true)
-        → names pairs (reply.Reply m) ≡ true
+    at : (m < n) ⊎ (n ≤ m) → misses_reply_name d r event pairs (reply.Reply n) ≡ false
+        → (m < n → is_asked d r event (reply.Reply m) ≡ true → names_reply pairs (reply.Reply m) ≡ true)
+        → names_reply pairs (reply.Reply m) ≡ true
     at (inl below) last behind = behind below asked
     at (inr above) last behind =
         let same : n ≡ m = omega (arith, lt, above) in
-        let here : misses d r event pairs (reply.Reply m) ≡ false = subst (λ i. misses d r event pairs (reply.Reply i) ≡ false) same last in
-        not-false (names pairs (reply.Reply m)) (and_not (is_asked d r event (reply.Reply m)) (not (names pairs (reply.Reply m))) here asked)
+        let here : misses_reply_name d r event pairs (reply.Reply m) ≡ false = subst (λ i. misses_reply_name d r event pairs (reply.Reply i) ≡ false) same last in
+        not-false (names_reply pairs (reply.Reply m)) (and_not (is_asked d r event (reply.Reply m)) (not (names_reply pairs (reply.Reply m))) here asked)
 
 -- each reply that a core may get is named
 named : (d : Draft) → IsWellFormed d → (r : Role) (event : Event) (pairs : List Pair) (name : ReplyName) → misses_reply d r event pairs ≡ false
-    → is_asked d r event name ≡ true → names pairs name ≡ true
+    → is_asked d r event name ≡ true → names_reply pairs name ≡ true
 named d w r event pairs reply.AckCount h asked =
-    let none = or_parts (misses d r event pairs reply.AckCount) (misses_below d r event pairs (length d.messages)) h in
-    not-false (names pairs reply.AckCount) (and_not (is_asked d r event reply.AckCount) (not (names pairs reply.AckCount)) none.0 asked)
+    let none = or_parts (misses_reply_name d r event pairs reply.AckCount) (misses_below d r event pairs (length d.messages)) h in
+    not-false (names_reply pairs reply.AckCount) (and_not (is_asked d r event reply.AckCount) (not (names_reply pairs reply.AckCount)) none.0 asked)
 named d w r event pairs (reply.Reply m) h asked =
-    let none = or_parts (misses d r event pairs reply.AckCount) (misses_below d r event pairs (length d.messages)) h in
+    let none = or_parts (misses_reply_name d r event pairs reply.AckCount) (misses_below d r event pairs (length d.messages)) h in
     named_below d r event pairs (length d.messages) m none.1 (asked_below d w r event m asked) asked
 
 -- a reply that is named has a final state
-named_final : (name : ReplyName) (pairs : List Pair) → names pairs name ≡ true
+named_final : (name : ReplyName) (pairs : List Pair) → names_reply pairs name ≡ true
     → (t : ℕ) × (option_map (λ (p : Pair). p.fin) (pair_under name pairs) ≡ Some t)
 named_final name pairs h = let (p, e) = any_find (λ p. same_reply p.reply name) pairs h in (p.fin, ap (option_map (λ (p : Pair). p.fin)) e)
 
@@ -304,12 +304,12 @@ load_ends d s t name (Ask request pairs) keeps e =
     at (or_cases (is (shared d) t) (cache_is (λ c. is_owner c.role) d t) (not-false (is (shared d) t || cache_is (λ c. is_owner c.role) d t) here))
   where
     at : (is (shared d) t ≡ true) ⊎ (cache_is (λ c. is_owner c.role) d t ≡ true) → (shared d ≡ Some t) ⊎ (cache_is (λ c. is_owner c.role) d t ≡ true)
-    at (inl h) = inl (is_one (shared d) t h)
+    at (inl h) = inl (is_then_some (shared d) t h)
     at (inr h) = inr h
 
 -- a store ends in an owner that may write and isn't clean, where a store is a hit that stays
 store_ends : (d : Draft) (s t : ℕ) (name : ReplyName) (form : CoreForm) → Keeps d s Store form → final_under name form ≡ Some t
-    → (cache_is is_dirty_writer d t ≡ true) × ((y : CoreLine) → core_row d t Store ≡ Some y → stays t y.form ≡ true)
+    → (cache_is is_dirty_writer d t ≡ true) × ((y : CoreLine) → core_row d t Store ≡ Some y → stays_at_store t y.form ≡ true)
 store_ends d s t name (Hit next) keeps e = absurd cc
 store_ends d s t name (Leave request) keeps e = absurd cc
 store_ends d s t name (Ask request pairs) keeps e =
@@ -319,7 +319,7 @@ store_ends d s t name (Ask request pairs) keeps e =
     let here : is_no_store_final d t ≡ false = subst (λ n. is_no_store_final d n ≡ false) fin right in
     let (writes, moves) = or_parts (not (cache_is is_dirty_writer d t)) (moves_at_store d t) here in (
       not-false (cache_is is_dirty_writer d t) writes,
-      λ y f. not-false (stays t y.form) (sym (ap (λ (o : Option CoreLine). option_map_or (λ c. not (stays t c.form)) o false) f) ∙ moves),
+      λ y f. not-false (stays_at_store t y.form) (sym (ap (λ (o : Option CoreLine). option_map_or (λ c. not (stays_at_store t c.form)) o false) f) ∙ moves),
     )
 
 -- where no two final states differ, each is the first
@@ -376,20 +376,20 @@ not_parted false true h = absurd cc
 not_parted false false h = refl
 
 -- such states are listed together
-same_lists : (d : Draft) (s t : ℕ) → list_any (parts s t) d.dirs ≡ false → (n : ℕ) → lists d n t ≡ lists d n s
+same_lists : (d : Draft) (s t : ℕ) → list_any (tells_apart s t) d.dirs ≡ false → (n : ℕ) → lists d n t ≡ lists d n s
 same_lists d s t none n = at (slice_get d.dirs n) refl
   where
     at : (o : Option DirLine) → slice_get d.dirs n ≡ o
         → lists_state (option_map_or (λ l. l.beside) o []) t ≡ lists_state (option_map_or (λ l. l.beside) o []) s
     at None e = refl
-    at (Some l) e = not_parted (lists_state l.beside s) (lists_state l.beside t) (any_not (parts s t) d.dirs n l none e)
+    at (Some l) e = not_parted (lists_state l.beside s) (lists_state l.beside t) (any_not (tells_apart s t) d.dirs n l none e)
 
 -- a store hit of an owner that may write leads to one that isn't clean, and that the directory doesn't tell apart
 store_hit_ends : (d : Draft) (s t : ℕ) (form : CoreForm) → Keeps d s Store form → cache_is is_write_owner d s ≡ true
     → store_next s Store form ≡ Some t → (cache_is is_dirty_writer d t ≡ true) × ((n : ℕ) → lists d n t ≡ lists d n s)
 store_hit_ends d s t form keeps writer e =
     let here : hits_to d s t ≡ false = subst (λ o. option_map_or (hits_to d s) o false ≡ false) e keeps.hits in
-    let none = or_parts (not (cache_is is_dirty_writer d t)) (list_any (parts s t) d.dirs) (and_not (cache_is is_write_owner d s) _ here writer) in
+    let none = or_parts (not (cache_is is_dirty_writer d t)) (list_any (tells_apart s t) d.dirs) (and_not (cache_is is_write_owner d s) _ here writer) in
     (not-false (cache_is is_dirty_writer d t) none.0, same_lists d s t none.1)
 
 -- an evict gives the copy up
@@ -467,7 +467,7 @@ row d h s event c e leaves =
   where
     no_out : is_out c.role ≡ false → is (out d) s ≡ true → ⊥
     no_out other at_out =
-        let (x, g, is_so) = (position_get (λ c. is_out c.role) d.caches s (is_one (out d) s at_out)).1 in
+        let (x, g, is_so) = (position_get (λ c. is_out c.role) d.caches s (is_then_some (out d) s at_out)).1 in
         let same : x ≡ c = same_Some x c (sym g ∙ e) in
         not_both (is_out c.role) (subst (λ (l : CacheLine). is_out l.role ≡ true) same is_so) other
 
@@ -529,8 +529,8 @@ evict_dirty d w h s m x c g owns unclean e leaves =
     or_nothing false h = h
 
 -- what a core does
-pub cores : (d : Draft) → IsWellFormed d → HasShape d → HasCores d
-cores d w h =
+pub shape_gives_cores : (d : Draft) → IsWellFormed d → HasShape d → HasCores d
+shape_gives_cores d w h =
     let keeps = core_row_keeps d w h in
     record {
       row = row d h;

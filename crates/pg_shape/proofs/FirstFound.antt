@@ -22,8 +22,8 @@ use Rattle.pg_shape.specs.CoreRules.{core_breaks}
 use Rattle.pg_shape.specs.TakeRules.{take_breaks}
 use Rattle.pg_shape.specs.RowRules.{row_breaks}
 use Rattle.pg_shape.specs.ShapeFaults.{IsBrokenIn}
-use Rattle.pg_shape.specs.FirstFaults.{first_rule, fault_or, first_in, or_later}
-use Rattle.pg_shape.proofs.Rising.{In, rising_head, rising_tail}
+use Rattle.pg_shape.specs.FirstFaults.{first_rule, fault_or, first_fault_in, or_later}
+use Rattle.pg_shape.proofs.Rising.{IsOneOf, rising_head, rising_tail}
 use Rattle.pg_shape.proofs.FirstRules.{IsOfShape, first_rule-some, first_rule-none}
 
 pub text_of_shape : (d : Draft) → IsOfShape (text_breaks d)
@@ -113,18 +113,18 @@ BrokenFrom line breaks n [] L R = ⊥
 BrokenFrom line breaks n (x ∷ xs) L R = BrokenAt (line x) (breaks n x) L R ⊎ BrokenFrom line breaks (suc n) xs L R
 
 pub broken_line : {X : Type 0} (line : X → ℕ) (breaks : ℕ → X → Rule → Bool) (n : ℕ) (xs : List X) (L : ℕ) (R : Rule)
-    → BrokenFrom line breaks n xs L R → In L (map line xs)
+    → BrokenFrom line breaks n xs L R → IsOneOf L (map line xs)
 broken_line line breaks n [] L R b = absurd b
 broken_line line breaks n (x ∷ xs) L R (inl b) = inl b.0
 broken_line line breaks n (x ∷ xs) L R (inr b) = inr (broken_line line breaks (suc n) xs L R b)
 
 -- the first fault among lines that rise
 pub first_from : {X : Type 0} (line : X → ℕ) (breaks : ℕ → X → Rule → Bool) → ((n : ℕ) (x : X) → IsOfShape (breaks n x)) → (n : ℕ) (xs : List X)
-    → is_rising (map line xs) ≡ true → IsFirstOf (BrokenFrom line breaks n xs) (first_in line breaks n xs)
+    → is_rising (map line xs) ≡ true → IsFirstOf (BrokenFrom line breaks n xs) (first_fault_in line breaks n xs)
 first_from line breaks of_shape n [] h = λ L R b. b
 first_from line breaks of_shape n (x ∷ xs) h =
     let behind = first_from line breaks of_shape (suc n) xs (rising_tail (line x) (map line xs) h) in
-    subst (IsFirstOf (Either (BrokenAt (line x) (breaks n x)) (BrokenFrom line breaks (suc n) xs))) (fault_or-later (line x) (first_rule (breaks n x)) (first_in line breaks (suc n) xs))
+    subst (IsFirstOf (Either (BrokenAt (line x) (breaks n x)) (BrokenFrom line breaks (suc n) xs))) (fault_or-later (line x) (first_rule (breaks n x)) (first_fault_in line breaks (suc n) xs))
     (first_of_two _ _ _ _ apart (first_at (line x) (breaks n x) (of_shape n x)) behind)
   where
     apart : AreApart (BrokenAt (line x) (breaks n x)) (BrokenFrom line breaks (suc n) xs)
@@ -156,7 +156,7 @@ from_from line breaks n (y ∷ xs) L R (inr b) =
 
 -- the first fault among the lines of a kind
 pub first_in_kind : {X : Type 0} (line : X → ℕ) (breaks : ℕ → X → Rule → Bool) → ((n : ℕ) (x : X) → IsOfShape (breaks n x)) → (xs : List X)
-    → is_rising (map line xs) ≡ true → IsFirstOf (IsBrokenIn line breaks xs) (first_in line breaks 0 xs)
+    → is_rising (map line xs) ≡ true → IsFirstOf (IsBrokenIn line breaks xs) (first_fault_in line breaks 0 xs)
 first_in_kind line breaks of_shape xs h = first_of_same (BrokenFrom line breaks 0 xs) (IsBrokenIn line breaks xs) _ back there (first_from line breaks of_shape 0 xs h)
   where
     there : (L : ℕ) (R : Rule) → IsBrokenIn line breaks xs L R → BrokenFrom line breaks 0 xs L R
@@ -172,7 +172,7 @@ first_in_kind line breaks of_shape xs h = first_of_same (BrokenFrom line breaks 
         (k, x, e, l, subst (λ m. IsTrue (breaks m x R)) here h)
 
 -- the line of what is broken is one of the kind
-pub in_kind : {X : Type 0} (line : X → ℕ) (breaks : ℕ → X → Rule → Bool) (xs : List X) (L : ℕ) (R : Rule) → IsBrokenIn line breaks xs L R → In L (map line xs)
+pub in_kind : {X : Type 0} (line : X → ℕ) (breaks : ℕ → X → Rule → Bool) (xs : List X) (L : ℕ) (R : Rule) → IsBrokenIn line breaks xs L R → IsOneOf L (map line xs)
 in_kind line breaks xs L R b =
     let (k, x, e, l, h) = b in
     let here : k ≡ 0 + k = omega arith in

@@ -7,7 +7,7 @@ use Rattle.pg_perm.specs.Rules.{rule_rank}
 use Rattle.pg_perm.proofs.Ranks.{same_rule}
 use Rattle.pg_shape.specs.FirstFaults.{shape_rules, first_rule}
 
--- R is broken, and each rule that is broken is R or comes behind it
+-- R is broken, and each rule that is broken is R or comes after it
 abbrev pub IsFirst : (Rule → Bool) → Rule → Type 0
 IsFirst test R = (test R ≡ true) × ((Q : Rule) → test Q ≡ true → rule_rank R ≤ rule_rank Q)
 
@@ -19,7 +19,7 @@ IsClean test = (Q : Rule) → test Q ≡ false
 abbrev pub IsOfShape : (Rule → Bool) → Type 0
 IsOfShape test = (Q : Rule) → (rule_rank Q < 7) ⊎ (25 < rule_rank Q) → test Q ≡ false
 
--- the places of these rules are n and those behind it
+-- the places of these rules are n and those after it
 abbrev Ranked : ℕ → List Rule → Type 0
 Ranked n [] = Unit {0}
 Ranked n (R ∷ Rs) = (rule_rank R ≡ n) × Ranked (suc n) Rs
@@ -34,9 +34,9 @@ some_injective x y e = cc e
 abbrev IsFirstFrom : (Rule → Bool) → ℕ → Rule → Type 0
 IsFirstFrom test n R = (test R ≡ true) × (n ≤ rule_rank R) × ((Q : Rule) → n ≤ rule_rank Q → test Q ≡ true → rule_rank R ≤ rule_rank Q)
 
--- where the rule at a place isn't broken, the first of those behind it is the first
-first_behind : (test : Rule → Bool) (n : ℕ) (S R : Rule) → rule_rank S ≡ n → test S ≡ false → IsFirstFrom test (suc n) R → IsFirstFrom test n R
-first_behind test n S R place sound first = (first.0, omega (arith, first.1), least)
+-- where the rule at a place isn't broken, the first of those after it is the first
+first_after : (test : Rule → Bool) (n : ℕ) (S R : Rule) → rule_rank S ≡ n → test S ≡ false → IsFirstFrom test (suc n) R → IsFirstFrom test n R
+first_after test n S R place sound first = (first.0, omega (arith, first.1), least)
   where
     least : (Q : Rule) → n ≤ rule_rank Q → test Q ≡ true → rule_rank R ≤ rule_rank Q
     least Q above broken = at (cases_lt (rule_rank Q) (suc n))
@@ -57,7 +57,7 @@ find_first test n (S ∷ Rs) R r e = at (test S) refl e (find_first test (suc n)
         let same : S ≡ R = some_injective S R e in
         let place : rule_rank R ≡ n = ap rule_rank (sym same) ∙ r.0 in
         (ap test (sym same) ∙ h, omega (arith, place), λ Q above broken. omega (arith, place, above))
-    at false h e behind = first_behind test n S R r.0 h (behind e)
+    at false h e behind = first_after test n S R r.0 h (behind e)
 
 -- where none is found, none at a place from n on is broken
 find_none : (test : Rule → Bool) (n : ℕ) (Rs : List Rule) → Ranked n Rs → find test Rs ≡ None → (Q : Rule) → n ≤ rule_rank Q → rule_rank Q < n + length Rs

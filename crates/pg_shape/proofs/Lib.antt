@@ -10,5 +10,5 @@ pub mod Nexts
 pub mod Takes
 pub mod States
 pub mod Cores
-pub mod Given
+pub mod ShapeGives
 pub mod Finals

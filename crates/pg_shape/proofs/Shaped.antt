@@ -70,9 +70,9 @@ take_keeps d h n x e R = false_from_ne_true (take_breaks d n x R) (λ b. h.whole
 pub row_keeps : (d : Draft) → HasShape d → (n : ℕ) (x : RowLine) → slice_get d.rows n ≡ Some x → (R : Rule) → row_breaks d n x R ≡ false
 row_keeps d h n x e R = false_from_ne_true (row_breaks d n x R) (λ b. h.whole x.line R (inr (inr (inr (inr (inr (inr (n, x, e, refl, b))))))))
 
-pub is_one : (o : Option ℕ) (n : ℕ) → is o n ≡ true → o ≡ Some n
-is_one None n h = absurd cc
-is_one (Some m) n h = ap Some (eqb-true m n h)
+pub is_then_some : (o : Option ℕ) (n : ℕ) → is o n ≡ true → o ≡ Some n
+is_then_some None n h = absurd cc
+is_then_some (Some m) n h = ap Some (eqb-true m n h)
 
 -- there is an out state
 pub has_out : (d : Draft) → HasShape d → (s : ℕ) × (out d ≡ Some s)
@@ -108,11 +108,11 @@ take_is_due d h s f t e =
 -- the shared state has a take line for inv
 inv_has_take : (d : Draft) → HasShape d → (s f : ℕ) → is (shared d) s ≡ true → is (forward_of d Inv) f ≡ true → is_none (take_row d s f) ≡ false
 inv_has_take d h s f at_shared at_inv =
-    let (x, e, role) = (position_get (λ c. is_shared c.role) d.caches s (is_one (shared d) s at_shared)).1 in
+    let (x, e, role) = (position_get (λ c. is_shared c.role) d.caches s (is_then_some (shared d) s at_shared)).1 in
     let lacks : lacks_take_lines d s x ≡ false = cache_keeps d h s x e S13 in
     let inv : lacks_inv_line d s ≡ false = (or_parts (lacks_inv_line d s) _ lacks).0 in
     let here : (is (shared d) s && is_none (take_row d s f)) ≡ false =
-    subst (λ o. option_map_or (λ g. is (shared d) s && is_none (take_row d s g)) o false ≡ false) (is_one (forward_of d Inv) f at_inv) inv in
+    subst (λ o. option_map_or (λ g. is (shared d) s && is_none (take_row d s g)) o false ≡ false) (is_then_some (forward_of d Inv) f at_inv) inv in
     and_not (is (shared d) s) _ here at_shared
 
 -- an owner has a take line for what is passed on to it
@@ -126,7 +126,7 @@ owner_has_take d h s f owner to_owner passed =
     let row : lacks_answer d s r ≡ false = any_not (lacks_answer d s) d.rows k r none g in
     let parts = and_parts (is (forward_in r.form) f) (lists d r.dir s) to in
     let here : (is_to_owner d f && is_none (take_row d s f) && lists d r.dir s) ≡ false =
-    subst (λ o. option_map_or (λ f. is_to_owner d f && is_none (take_row d s f) && lists d r.dir s) o false ≡ false) (is_one (forward_in r.form) f parts.0) row in
+    subst (λ o. option_map_or (λ f. is_to_owner d f && is_none (take_row d s f) && lists d r.dir s) o false ≡ false) (is_then_some (forward_in r.form) f parts.0) row in
     middle_not (is_to_owner d f) (is_none (take_row d s f)) (lists d r.dir s) here to_owner parts.1
 
 -- a due pair has a take line
@@ -161,8 +161,8 @@ one_class Reply a b h g = absurd cc
 -- the first requests of two classes differ
 pub class_equal : (d : Draft) (a b : ReqClass) (m : ℕ) → is (request_of d a) m ≡ true → is (request_of d b) m ≡ true → a ≡ b
 class_equal d a b m h g =
-    let (x, e, p) = (position_get (λ x. is_request_of a x.class) d.messages m (is_one (request_of d a) m h)).1 in
-    let (y, f, q) = (position_get (λ x. is_request_of b x.class) d.messages m (is_one (request_of d b) m g)).1 in
+    let (x, e, p) = (position_get (λ x. is_request_of a x.class) d.messages m (is_then_some (request_of d a) m h)).1 in
+    let (y, f, q) = (position_get (λ x. is_request_of b x.class) d.messages m (is_then_some (request_of d b) m g)).1 in
     let same : y ≡ x = same_Some y x (sym f ∙ e) in
     one_class x.class a b p (subst (λ (z : MsgLine). is_request_of b z.class ≡ true) same q)
 

@@ -22,7 +22,7 @@ use Rattle.pg_terms.specs.Terms as terms
 use Rattle.pg_terms.specs.Due.{same_kind, kind_is}
 use Rattle.pg_terms.proofs.Same.{forward_equal}
 use Rattle.pg_shape.specs.TextRules.{has_kind, lacks_dirs, lacks_inv}
-use Rattle.pg_shape.specs.CacheRules.{has_wrong_perm, owners, is_one_too_many, is_needlessly_clean, is_listed, is_unlisted}
+use Rattle.pg_shape.specs.CacheRules.{has_wrong_perm, owner_count, is_one_too_many, is_needlessly_clean, is_listed, is_unlisted}
 use Rattle.pg_shape.specs.CacheRules as cache
 use Rattle.pg_shape.specs.DirRules.{is_idle, is_second_idle, has_no_owner, is_empty, lists_wrong_number, has_twice, lists_another, mixes_a_writer, lacks_shared, lists_wrongly}
 use Rattle.pg_shape.specs.MessageRules.{has_forward, is_inv_to_none}
@@ -67,7 +67,7 @@ first_place p xs once s x e h = at (position p xs) refl
 -- the line of a cache state is no second of its role, nor an owner too many
 not_too_many : (d : Draft) → HasShape d → (s : ℕ) (c : CacheLine) → IsCache d s c
     → ((is_out c.role && cache.has_out (take s d.caches)) ≡ false) × ((is_shared c.role && cache.has_shared (take s d.caches)) ≡ false)
-    × ((is_owner c.role && nat_le 12 (owners (take s d.caches))) ≡ false)
+    × ((is_owner c.role && nat_le 12 (owner_count (take s d.caches))) ≡ false)
 not_too_many d h s c e =
     let kept : is_one_too_many (take s d.caches) c ≡ false = cache_keeps d h s c e S2 in
     three_not (is_out c.role && cache.has_out (take s d.caches)) (is_shared c.role && cache.has_shared (take s d.caches)) _ kept
@@ -93,8 +93,8 @@ owner_some : (d : Draft) → HasShape d → (s : ℕ) (c : CacheLine) → IsCach
 owner_some d h s c e role = and_not (is_owner c.role) _ (right_perm d h s c e).2 role
 
 -- what the shape says of the permissions
-pub perms : (d : Draft) → HasShape d → HasPerms d
-perms d h = record {
+pub shape_gives_perms : (d : Draft) → HasShape d → HasPerms d
+shape_gives_perms d h = record {
   start = has_out d h;
   out_none = λ s c e role. (
     first_place (λ c. is_out c.role) d.caches (one_out d h) s c e role,
@@ -251,8 +251,8 @@ has_shared d h n (inr of_kind) =
     sharers_shared d h n l e (or_right (same_kind kind.Shared l.kind) _ p)
 
 -- what the shape says of the lists
-pub lists : (d : Draft) → HasShape d → HasLists d
-lists d h = record {
+pub shape_gives_lists : (d : Draft) → HasShape d → HasLists d
+shape_gives_lists d h = record {
   lists_none = lists_none d h;
   lists_some = lists_some d h;
   lists_owners = lists_owners d h;
@@ -285,7 +285,7 @@ one_forward d h class f g at_f at_g =
     let (y, k, q) = map_or_get (λ m. is_forward_of class m.class) (slice_get d.messages g) at_g in
     one_place (λ m. is_forward_of class m.class) d.messages (one_of_class d h class) f g x y e p k q
 
--- where there is a shared state there is an inv
+-- where there is a shared state there is an invalidation
 has_inv : (d : Draft) → HasShape d → (s : ℕ) → shared d ≡ Some s → (f : ℕ) × (forward_of d Inv ≡ Some f)
 has_inv d h s e =
     let kept : lacks_inv d ≡ false = text_keeps d h S6 in

@@ -23,7 +23,7 @@ use Rattle.pg_perm.specs.declared.draft.Action.TheVariants as action
 use Rattle.pg_perm.specs.declared.fault.Rule.TheVariants.{S12, S14, S15, S16}
 use Rattle.pg_terms.specs.declared.cases.DirCase.{DirCase}
 use Rattle.pg_terms.specs.declared.cases.DirCase.TheVariants as case
-use Rattle.pg_terms.specs.Terms.{is, is_other, is_owner, is_read_owner, is_forward_of, cache_is, out, shared, request_of, forward_of, has_class, listed, lists, take_row, is_case, same_who, keep_of}
+use Rattle.pg_terms.specs.Terms.{is, is_other, is_owner, is_read_owner, is_forward_of, cache_is, out, shared, request_of, forward_of, has_class, listed_states, lists, take_row, is_case, same_who, keep_of}
 use Rattle.pg_terms.specs.Due.{same_kind, kind_is, forward_in, is_to_owner, is_passed_to, is_due, cases_at, same_case, is_due_case}
 use Rattle.pg_shape.specs.DirRules.{has_no_owner}
 use Rattle.pg_shape.specs.TakeRules.{invalidates_wrongly, shares_wrongly, keeps_wrongly, drops_wrongly, answers_wrongly, takes_wrongly, keeps_moving}
@@ -32,9 +32,9 @@ use Rattle.pg_shape.specs.RowRules.{is_reply, reads_by, writes_by, acts_wrongly}
 use Rattle.pg_shape.specs.ShapeFaults.{HasShape}
 use Rattle.pg_shape.specs.Shaped.{HasTakes, HasLists}
 use Rattle.pg_terms.proofs.Same.{case_same}
-use Rattle.pg_shape.proofs.Bools.{three_not, and_not, or_so, one_three, three_both}
+use Rattle.pg_shape.proofs.Bools.{three_not, and_not, or_of_either, one_three, three_both}
 use Rattle.pg_shape.proofs.Searches.{any_get, any_at, find_get, position_get, some_of, not_both}
-use Rattle.pg_shape.proofs.Shaped.{take_keeps, row_keeps, is_one, due_has_take, due_class_of}
+use Rattle.pg_shape.proofs.Shaped.{take_keeps, row_keeps, is_then_some, due_has_take, due_class_of}
 
 -- the row of a pair is a take line for it, which breaks no rule
 taken : (d : Draft) → HasShape d → (s f : ℕ) (t : TakeLine) → take_row d s f ≡ Some t
@@ -124,7 +124,7 @@ has_owner d l n s at = by (slice_get d.dirs n) refl
   where
     empty : (x : DirLine) → slice_get d.dirs n ≡ Some x → has_no_owner x.kind ≡ true → ⊥
     empty x e k =
-        let none : listed d n ≡ [] = ap (λ (o : Option DirLine). option_map_or (λ l. l.beside) o []) e ∙ l.lists_none n x e k in
+        let none : listed_states d n ≡ [] = ap (λ (o : Option DirLine). option_map_or (λ l. l.beside) o []) e ∙ l.lists_none n x e k in
         not_both (lists d n s) at (ap (λ states. list_any (λ y. y == s) states) none)
 
     of_kind : (x : DirLine) → slice_get d.dirs n ≡ Some x → (k : DirKind) → x.kind ≡ k → (kind_is kind.Owned d n ≡ true) ⊎ (kind_is kind.Mixed d n ≡ true)
@@ -135,7 +135,7 @@ has_owner d l n s at = by (slice_get d.dirs n) refl
 
     by : (o : Option DirLine) → slice_get d.dirs n ≡ o → (kind_is kind.Owned d n ≡ true) ⊎ (kind_is kind.Mixed d n ≡ true)
     by None e =
-        let none : listed d n ≡ [] = ap (λ (o : Option DirLine). option_map_or (λ l. l.beside) o []) e in
+        let none : listed_states d n ≡ [] = ap (λ (o : Option DirLine). option_map_or (λ l. l.beside) o []) e in
         absurd (not_both (lists d n s) at (ap (λ states. list_any (λ y. y == s) states) none))
     by (Some x) e = of_kind x e x.kind refl
 
@@ -223,11 +223,11 @@ passed_due d h l n s f k r e dir passed at =
     let to = to_owner d h n f k r e dir passed (has_owner d l n s at) in
     let this : is_passed_to d s f r ≡ true =
     and_from (is (forward_in r.form) f) (lists d r.dir s) (ap (λ (o : Option ℕ). is o f) passed ∙ eq-eqb f f refl) (subst (λ m. lists d m s ≡ true) (sym dir) at) in
-    or_so (is (shared d) s && is (forward_of d Inv) f) (cache_is (λ c. is_owner c.role) d s && is_to_owner d f && list_any (is_passed_to d s f) d.rows)
+    or_of_either (is (shared d) s && is (forward_of d Inv) f) (cache_is (λ c. is_owner c.role) d s && is_to_owner d f && list_any (is_passed_to d s f) d.rows)
     (inr (three_both (cache_is (λ c. is_owner c.role) d s) (is_to_owner d f) (list_any (is_passed_to d s f) d.rows) owner to (any_at (is_passed_to d s f) d.rows k r e this)))
 
-pub takes : (d : Draft) → HasShape d → HasLists d → (s : ℕ) × (out d ≡ Some s) → HasTakes d
-takes d h l start = record {
+pub shape_gives_takes : (d : Draft) → HasShape d → HasLists d → (s : ℕ) × (out d ≡ Some s) → HasTakes d
+shape_gives_takes d h l start = record {
   due = λ s f due. some_of (take_row d s f) (due_has_take d h s f due);
   passed = passed_due d h l;
   inv = λ s f t e class.
@@ -239,7 +239,7 @@ takes d h l start = record {
       let (state, forward, right, moves) = taken d h s f t e in
       let wrong = and_not (has_class Share d t.forward) (shares_wrongly d t) (answering d t right).1 (of_class d Share f t.forward forward class) in
       let parts = or_parts (is_none t.reply) (not (is (shared d) t.next)) wrong in
-      (is_none-some t.reply parts.0, is_one (shared d) t.next (not-false (is (shared d) t.next) parts.1));
+      (is_none-some t.reply parts.0, is_then_some (shared d) t.next (not-false (is (shared d) t.next) parts.1));
   keep = λ s f t e class.
       let (state, forward, right, moves) = taken d h s f t e in
       let wrong = and_not (has_class Keep d t.forward) (keeps_wrongly d t) (answering d t right).2 (of_class d Keep f t.forward forward class) in

@@ -30,13 +30,13 @@ has_out above = list_any (λ c. is_out c.role) above
 abbrev pub has_shared : List CacheLine → Bool
 has_shared above = list_any (λ c. is_shared c.role) above
 
-abbrev pub owners : List CacheLine → ℕ
-owners above = length (filter (λ c. is_owner c.role) above)
+abbrev pub owner_count : List CacheLine → ℕ
+owner_count above = length (filter (λ c. is_owner c.role) above)
 
 -- S2: a second out, a second shared, or an owner below 12 others
 abbrev pub is_one_too_many : List CacheLine → CacheLine → Bool
 is_one_too_many above c = (is_out c.role && has_out above) || (is_shared c.role && has_shared above)
-    || (is_owner c.role && nat_le 12 (owners above))
+    || (is_owner c.role && nat_le 12 (owner_count above))
 
 -- S3: clean, and no owner
 abbrev pub is_needlessly_clean : CacheLine → Bool
@@ -54,7 +54,7 @@ is_unlisted d s c = is_owner c.role && not (is_listed d s)
 abbrev pub lacks_core_lines : Draft → ℕ → Bool
 lacks_core_lines d s = is_none (core_row d s Load) || is_none (core_row d s Store) || (not (is (out d) s) && is_none (core_row d s Evict))
 
--- the shared state without a take line for the inv forward
+-- the shared state without a take line for the invalidation forward
 abbrev pub lacks_inv_line : Draft → ℕ → Bool
 lacks_inv_line d s = option_map_or (λ f. is (shared d) s && is_none (take_row d s f)) (forward_of d Inv) false
 

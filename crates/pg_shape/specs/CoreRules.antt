@@ -85,31 +85,31 @@ is_asked d role Load name = is_asked_by_load d name
 is_asked d role Store name = is_asked_by_store d role name
 is_asked d role Evict name = false
 
-abbrev pub names : List Pair → ReplyName → Bool
-names pairs name = list_any (λ p. same_reply p.reply name) pairs
+abbrev pub names_reply : List Pair → ReplyName → Bool
+names_reply pairs name = list_any (λ p. same_reply p.reply name) pairs
 
 -- a reply stands twice
 abbrev pub names_twice : List Pair → Bool
 names_twice [] = false
-names_twice (p ∷ pairs) = names pairs p.reply || names_twice pairs
+names_twice (p ∷ pairs) = names_reply pairs p.reply || names_twice pairs
 
 -- a reply that no core gets there
 abbrev pub names_another : Draft → Role → Event → List Pair → Bool
 names_another d role event pairs = list_any (λ p. not (is_asked d role event p.reply)) pairs
 
 -- a reply that a core may get isn't named
-abbrev pub misses : Draft → Role → Event → List Pair → ReplyName → Bool
-misses d role event pairs name = is_asked d role event name && not (names pairs name)
+abbrev pub misses_reply_name : Draft → Role → Event → List Pair → ReplyName → Bool
+misses_reply_name d role event pairs name = is_asked d role event name && not (names_reply pairs name)
 
 -- a reply below this number that a core may get isn't named
 abbrev pub misses_below : Draft → Role → Event → List Pair → ℕ → Bool
 misses_below d role event pairs zero = false
 misses_below d role event pairs (suc m) =
-    misses d role event pairs (reply.Reply m) || misses_below d role event pairs m
+    misses_reply_name d role event pairs (reply.Reply m) || misses_below d role event pairs m
 
 -- some reply that a core may get isn't named
 abbrev pub misses_reply : Draft → Role → Event → List Pair → Bool
-misses_reply d role event pairs = misses d role event pairs reply.AckCount || misses_below d role event pairs (length d.messages)
+misses_reply d role event pairs = misses_reply_name d role event pairs reply.AckCount || misses_below d role event pairs (length d.messages)
 
 -- the replies aren't those that a core may get, each once
 abbrev pub names_wrongly : Draft → Role → Event → List Pair → Bool
@@ -130,15 +130,15 @@ abbrev pub is_dirty_writer : CacheLine → Bool
 is_dirty_writer c = is_write_owner c && not c.clean
 
 -- a store in the state is a hit that stays there
-abbrev pub stays : ℕ → CoreForm → Bool
-stays s (Hit None) = true
-stays s (Hit (Some next)) = next == s
-stays s (Ask request pairs) = false
-stays s (Leave request) = false
+abbrev pub stays_at_store : ℕ → CoreForm → Bool
+stays_at_store s (Hit None) = true
+stays_at_store s (Hit (Some next)) = next == s
+stays_at_store s (Ask request pairs) = false
+stays_at_store s (Leave request) = false
 
 -- a store in the state moves on, or is no hit
 abbrev pub moves_at_store : Draft → ℕ → Bool
-moves_at_store d s = option_map_or (λ c. not (stays s c.form)) (core_row d s Store) false
+moves_at_store d s = option_map_or (λ c. not (stays_at_store s c.form)) (core_row d s Store) false
 
 -- a final state of a store is no owner that may write, or is clean, or a store in it moves on
 abbrev pub is_no_store_final : Draft → ℕ → Bool
@@ -171,12 +171,12 @@ abbrev pub has_core_line : List CoreLine → CoreLine → Bool
 has_core_line above c = list_any (λ x. (x.state == c.state) && same_event x.event c.event) above
 
 -- the directory state lists one of two states and not the other
-abbrev pub parts : ℕ → ℕ → DirLine → Bool
-parts s t l = (lists_state l.beside s && not (lists_state l.beside t)) || (not (lists_state l.beside s) && lists_state l.beside t)
+abbrev pub tells_apart : ℕ → ℕ → DirLine → Bool
+tells_apart s t l = (lists_state l.beside s && not (lists_state l.beside t)) || (not (lists_state l.beside s) && lists_state l.beside t)
 
 -- S10: a store hit of an owner that may write leads to a state that is none or is clean, or that the directory tells apart
 abbrev pub hits_wrongly : Draft → CoreLine → Bool
-hits_wrongly d c = option_map_or (λ t. cache_is is_write_owner d c.state && (not (cache_is is_dirty_writer d t) || list_any (parts c.state t) d.dirs))
+hits_wrongly d c = option_map_or (λ t. cache_is is_write_owner d c.state && (not (cache_is is_dirty_writer d t) || list_any (tells_apart c.state t) d.dirs))
     (store_next c.state c.event c.form) false
 
 -- there is a request of this number, and it is of the class

@@ -26,9 +26,9 @@ fault_or line None later = later
 fault_or line (Some R) later = Some (record { line = line; rule = R })
 
 -- the first fault among lines, of which the first is number n of its kind
-abbrev pub first_in : {X : Type 0} → (X → ℕ) → (ℕ → X → Rule → Bool) → ℕ → List X → Option Fault
-first_in line breaks n [] = None
-first_in line breaks n (x ∷ xs) = fault_or (line x) (first_rule (breaks n x)) (first_in line breaks (suc n) xs)
+abbrev pub first_fault_in : {X : Type 0} → (X → ℕ) → (ℕ → X → Rule → Bool) → ℕ → List X → Option Fault
+first_fault_in line breaks n [] = None
+first_fault_in line breaks n (x ∷ xs) = fault_or (line x) (first_rule (breaks n x)) (first_fault_in line breaks (suc n) xs)
 
 abbrev pub or_later : Option Fault → Option Fault → Option Fault
 or_later None later = later
@@ -37,9 +37,9 @@ or_later (Some f) later = Some f
 -- the first fault of the shape
 abbrev pub shape_fault : Draft → Option Fault
 shape_fault d = or_later (fault_or d.line (first_rule (text_breaks d)) None)
-    (or_later (first_in (λ c. c.line) (cache_breaks d) 0 d.caches)
-    (or_later (first_in (λ l. l.line) (dir_breaks d) 0 d.dirs)
-    (or_later (first_in (λ m. m.line) (message_breaks d) 0 d.messages)
-    (or_later (first_in (λ c. c.line) (core_breaks d) 0 d.cores)
-    (or_later (first_in (λ t. t.line) (take_breaks d) 0 d.takes)
-    (first_in (λ r. r.line) (row_breaks d) 0 d.rows))))))
+    (or_later (first_fault_in (λ c. c.line) (cache_breaks d) 0 d.caches)
+    (or_later (first_fault_in (λ l. l.line) (dir_breaks d) 0 d.dirs)
+    (or_later (first_fault_in (λ m. m.line) (message_breaks d) 0 d.messages)
+    (or_later (first_fault_in (λ c. c.line) (core_breaks d) 0 d.cores)
+    (or_later (first_fault_in (λ t. t.line) (take_breaks d) 0 d.takes)
+    (first_fault_in (λ r. r.line) (row_breaks d) 0 d.rows))))))

@@ -1,6 +1,6 @@
 -- The rules that the line of a request or a forward breaks.
 -- S5: a second read, a second write.
--- S6: a second forward of one class, an inv without a shared state.
+-- S6: a second forward of one class, an invalidation without a shared state.
 use Rattle.std.specs.Prelude.{ℕ, Bool, false, ◌&&◌, ◌||◌, List, take, is_none}
 use Rattle.std.specs.List.{list_any}
 use Rattle.pg_perm.specs.declared.draft.Draft.{Draft}
@@ -28,7 +28,7 @@ has_forward above Reply = false
 abbrev pub is_second_request : List MsgLine → MsgLine → Bool
 is_second_request above m = (is_request_of Read m.class && has_request Read above) || (is_request_of Write m.class && has_request Write above)
 
--- S6: an inv, and there is no shared state
+-- S6: an invalidation, and there is no shared state
 abbrev pub is_inv_to_none : Draft → MsgLine → Bool
 is_inv_to_none d m = is_forward_of Inv m.class && is_none (shared d)
 

@@ -20,31 +20,31 @@ use Rattle.pg_perm.specs.declared.draft.RowForm.{RowForm}
 use Rattle.pg_perm.specs.declared.draft.RowForm.TheVariants as form
 use Rattle.pg_perm.specs.declared.draft.Action.{Action}
 use Rattle.pg_perm.specs.declared.draft.Action.TheVariants as action
-use Rattle.pg_terms.specs.Terms.{is_owner, is, is_read_owner, cache_is, out, shared, request_of, has_class, listed, lists, core_row, keep_of}
+use Rattle.pg_terms.specs.Terms.{is_owner, is, is_read_owner, cache_is, out, shared, request_of, has_class, listed_states, lists, core_row, keep_of}
 use Rattle.pg_terms.specs.Due.{kind_is}
 use Rattle.pg_terms.specs.Rows.{final_under, reply_to}
 
 -- what isn't there passes
-abbrev pub passes : (ℕ → Bool) → Option ℕ → Bool
-passes test o = option_map_or test o true
+abbrev pub is_none_or : (ℕ → Bool) → Option ℕ → Bool
+is_none_or test o = option_map_or test o true
 
--- the core row of who asks: that of out for another, that of shared for a sharer
-abbrev pub requester_row : Draft → Event → Who → Option CoreLine
-requester_row d event Other = option_and_then (λ s. core_row d s event) (out d)
-requester_row d event Sharer = option_and_then (λ s. core_row d s event) (shared d)
-requester_row d event Owner = None
+-- the core row of the requestor: that of out for another, that of shared for a sharer
+abbrev pub requestor_row : Draft → Event → Who → Option CoreLine
+requestor_row d event Other = option_and_then (λ s. core_row d s event) (out d)
+requestor_row d event Sharer = option_and_then (λ s. core_row d s event) (shared d)
+requestor_row d event Owner = None
 
--- the final state of who asks, under a reply
-abbrev pub final_of : Draft → Event → Who → ℕ → Option ℕ
-final_of d event who m = option_and_then (λ c. final_under (reply.Reply m) c.form) (requester_row d event who)
+-- the final state of the requestor, under a reply
+abbrev pub requestor_final : Draft → Event → Who → ℕ → Option ℕ
+requestor_final d event who m = option_and_then (λ c. final_under (reply.Reply m) c.form) (requestor_row d event who)
 
--- the final state of who asks, where an owner in a state answers
-abbrev pub final_by : Draft → Event → Who → ℕ → ℕ → Option ℕ
-final_by d event who f s = option_and_then (final_of d event who) (reply_to d s f)
+-- the final state of the requestor, where an owner in a state answers
+abbrev pub requestor_final_by : Draft → Event → Who → ℕ → ℕ → Option ℕ
+requestor_final_by d event who f s = option_and_then (requestor_final d event who) (reply_to d s f)
 
 -- the final state of a store of an owner
-abbrev pub upgrade_of : Draft → ℕ → Option ℕ
-upgrade_of d s = option_and_then (λ c. final_under reply.AckCount c.form) (core_row d s Store)
+abbrev pub owner_store_final : Draft → ℕ → Option ℕ
+owner_store_final d s = option_and_then (λ c. final_under reply.AckCount c.form) (core_row d s Store)
 
 -- the directory state lists the cache state, which is an owner
 abbrev pub lists_owner : Draft → ℕ → ℕ → Bool
@@ -56,39 +56,39 @@ is_read_end d r s = (kind_is kind.Shared d r.next && is (shared d) s)
     || (kind_is kind.Idle d r.dir && kind_is kind.Owned d r.next && lists_owner d r.next s)
 
 abbrev pub reads_memory : Draft → RowLine → Who → ℕ → Bool
-reads_memory d r who m = passes (is_read_end d r) (final_of d Load who m)
+reads_memory d r who m = is_none_or (is_read_end d r) (requestor_final d Load who m)
 
 -- a load that an owner answers ends shared
 abbrev pub is_shared_by : Draft → Who → ℕ → ℕ → Bool
-is_shared_by d who f s = passes (is (shared d)) (final_by d Load who f s)
+is_shared_by d who f s = is_none_or (is (shared d)) (requestor_final_by d Load who f s)
 
 abbrev pub are_shared : Draft → Who → ℕ → List ℕ → Bool
 are_shared d who f owners = list_all (is_shared_by d who f) owners
 
 -- the state that the keep forward leads an owner to is listed
 abbrev pub is_kept : Draft → ℕ → ℕ → Bool
-is_kept d next s = passes (lists d next) (keep_of d s)
+is_kept d next s = is_none_or (lists d next) (keep_of d s)
 
 abbrev pub are_kept : Draft → ℕ → List ℕ → Bool
 are_kept d next owners = list_all (is_kept d next) owners
 
 -- the state in which a load ends that an owner answers is listed, and is an owner
 abbrev pub is_owner_by : Draft → Who → ℕ → ℕ → ℕ → Bool
-is_owner_by d who next f s = passes (lists_owner d next) (final_by d Load who f s)
+is_owner_by d who next f s = is_none_or (lists_owner d next) (requestor_final_by d Load who f s)
 
 abbrev pub are_owners : Draft → Who → ℕ → ℕ → List ℕ → Bool
 are_owners d who next f owners = list_all (is_owner_by d who next f) owners
 
 -- the state in which a store ends that an owner answers is listed
 abbrev pub is_listed_by : Draft → Who → ℕ → ℕ → ℕ → Bool
-is_listed_by d who next f s = passes (lists d next) (final_by d Store who f s)
+is_listed_by d who next f s = is_none_or (lists d next) (requestor_final_by d Store who f s)
 
 abbrev pub are_listed : Draft → Who → ℕ → ℕ → List ℕ → Bool
 are_listed d who next f owners = list_all (is_listed_by d who next f) owners
 
 -- the state in which a store of a read owner ends is listed
 abbrev pub is_upgrade_listed : Draft → ℕ → ℕ → Bool
-is_upgrade_listed d next s = passes (λ t. not (cache_is is_read_owner d s) || lists d next t) (upgrade_of d s)
+is_upgrade_listed d next s = is_none_or (λ t. not (cache_is is_read_owner d s) || lists d next t) (owner_store_final d s)
 
 abbrev pub are_upgraded : Draft → ℕ → List ℕ → Bool
 are_upgraded d next owners = list_all (is_upgrade_listed d next) owners
@@ -99,15 +99,15 @@ lists_each d next states = list_all (lists d next) states
 
 -- a load that is passed on to the owner, which becomes a sharer
 abbrev pub leads_to_shared : Draft → RowLine → Who → ℕ → Bool
-leads_to_shared d r who f = kind_is kind.Shared d r.next && are_shared d who f (listed d r.dir)
+leads_to_shared d r who f = kind_is kind.Shared d r.next && are_shared d who f (listed_states d r.dir)
 
 -- a load that is passed on to the owner, which stays the owner
 abbrev pub leads_to_mixed : Draft → RowLine → Who → ℕ → Bool
-leads_to_mixed d r who f = kind_is kind.Mixed d r.next && are_kept d r.next (listed d r.dir) && are_shared d who f (listed d r.dir)
+leads_to_mixed d r who f = kind_is kind.Mixed d r.next && are_kept d r.next (listed_states d r.dir) && are_shared d who f (listed_states d r.dir)
 
--- a load that is passed on to the owner, which gives its copy to who asks
+-- a load that is passed on to the owner, which gives its copy to the requestor
 abbrev pub leads_to_owned : Draft → RowLine → Who → ℕ → Bool
-leads_to_owned d r who f = kind_is kind.Owned d r.next && are_owners d who r.next f (listed d r.dir)
+leads_to_owned d r who f = kind_is kind.Owned d r.next && are_owners d who r.next f (listed_states d r.dir)
 
 abbrev pub reads_owner : Draft → RowLine → Who → ℕ → Bool
 reads_owner d r who f = (not (has_class Share d f) || leads_to_shared d r who f) && (not (has_class Keep d f) || leads_to_mixed d r who f)
@@ -121,23 +121,23 @@ reads_rightly d r who action.Count = true
 
 -- the state in which a store ends that memory answers is listed
 abbrev pub is_final_listed : Draft → Who → ℕ → ℕ → Bool
-is_final_listed d who next m = passes (lists d next) (final_of d Store who m)
+is_final_listed d who next m = is_none_or (lists d next) (requestor_final d Store who m)
 
 -- the states in which a store of another or of a sharer ends are listed
 abbrev pub lists_writer : Draft → RowLine → Who → Action → Bool
 lists_writer d r who (action.Reply m) = is_final_listed d who r.next m
-lists_writer d r who (action.Forward f) = are_listed d who r.next f (listed d r.dir)
+lists_writer d r who (action.Forward f) = are_listed d who r.next f (listed_states d r.dir)
 lists_writer d r who action.Count = true
 
 abbrev pub writes_rightly : Draft → RowLine → Who → Action → Bool
 writes_rightly d r Other action = kind_is kind.Owned d r.next && lists_writer d r Other action
 writes_rightly d r Sharer action = kind_is kind.Owned d r.next && lists_writer d r Sharer action
-writes_rightly d r Owner action = kind_is kind.Owned d r.next && are_upgraded d r.next (listed d r.dir)
+writes_rightly d r Owner action = kind_is kind.Owned d r.next && are_upgraded d r.next (listed_states d r.dir)
 
 -- a sharer gives its copy up where there is an owner: the owner stays
 abbrev pub keeps_owner : Draft → RowLine → Left → Bool
-keeps_owner d r Last = (kind_is kind.Mixed d r.next || kind_is kind.Owned d r.next) && lists_each d r.next (listed d r.dir)
-keeps_owner d r More = kind_is kind.Mixed d r.next && lists_each d r.next (listed d r.dir)
+keeps_owner d r Last = (kind_is kind.Mixed d r.next || kind_is kind.Owned d r.next) && lists_each d r.next (listed_states d r.dir)
+keeps_owner d r More = kind_is kind.Mixed d r.next && lists_each d r.next (listed_states d r.dir)
 
 -- who gives a copy up was the owner, or was a sharer and there is no owner
 abbrev pub leaves_rightly : Draft → RowLine → Left → Bool

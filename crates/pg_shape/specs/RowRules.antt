@@ -48,20 +48,20 @@ is_count (action.Forward f) = false
 is_count action.Count = true
 
 -- the action passes the request on with a forward of a class
-abbrev pub forwards : FwdClass → Draft → Action → Bool
-forwards class d (action.Reply m) = false
-forwards class d (action.Forward f) = has_class class d f
-forwards class d action.Count = false
+abbrev pub forwards_by_class : FwdClass → Draft → Action → Bool
+forwards_by_class class d (action.Reply m) = false
+forwards_by_class class d (action.Forward f) = has_class class d f
+forwards_by_class class d action.Count = false
 
 -- where there is an owner, READ is passed on, and where there may be sharers beside it, the owner keeps a copy
 abbrev pub reads_by : Draft → ℕ → Action → Bool
-reads_by d n action = (not (kind_is kind.Owned d n) || forwards Share d action || forwards Keep d action || forwards Drop d action)
-    && (not (kind_is kind.Mixed d n) || forwards Share d action || forwards Keep d action)
+reads_by d n action = (not (kind_is kind.Owned d n) || forwards_by_class Share d action || forwards_by_class Keep d action || forwards_by_class Drop d action)
+    && (not (kind_is kind.Mixed d n) || forwards_by_class Share d action || forwards_by_class Keep d action)
 
 -- where there is an owner, the WRITE of another or of a sharer drops it; the WRITE of the owner is counted
 abbrev pub writes_by : Draft → ℕ → Who → Action → Bool
-writes_by d n Other action = not (kind_is kind.Owned d n || kind_is kind.Mixed d n) || forwards Drop d action
-writes_by d n Sharer action = not (kind_is kind.Owned d n || kind_is kind.Mixed d n) || forwards Drop d action
+writes_by d n Other action = not (kind_is kind.Owned d n || kind_is kind.Mixed d n) || forwards_by_class Drop d action
+writes_by d n Sharer action = not (kind_is kind.Owned d n || kind_is kind.Mixed d n) || forwards_by_class Drop d action
 writes_by d n Owner action = is_count action
 
 -- S16: the action is none that the case may have

@@ -27,9 +27,9 @@ use Rattle.pg_terms.specs.declared.cases.DirCase.TheVariants as case
 use Rattle.pg_terms.specs.Terms.{is_out, is_shared, is_owner, is_none_perm, is_read_perm, is_read_owner, is_write_owner, cache_is, out, shared, request_of, forward_of, has_class, lists, core_row, take_row, dir_row, keep_of}
 use Rattle.pg_terms.specs.Due.{kind_is, forward_in, is_due, is_due_case, is_load_reply, is_store_reply}
 use Rattle.pg_shape.specs.DirRules.{has_no_owner}
-use Rattle.pg_shape.specs.CoreRules.{is_hit, is_dirty_writer, stays, asks_class, is_from_cache}
+use Rattle.pg_shape.specs.CoreRules.{is_hit, is_dirty_writer, stays_at_store, asks_class, is_from_cache}
 use Rattle.pg_terms.specs.Rows.{allows, store_next, may_keep, final_under, action_in}
-use Rattle.pg_shape.specs.NextRules.{final_of, final_by, upgrade_of}
+use Rattle.pg_shape.specs.NextRules.{requestor_final, requestor_final_by, owner_store_final}
 use Rattle.pg_shape.specs.ShapeFaults.{HasShape}
 
 -- the line of a cache state
@@ -59,7 +59,7 @@ pub record HasLists (d : Draft) : Type 0 where
   pub one_idle : (n m : ℕ) → kind_is kind.Idle d n ≡ true → kind_is kind.Idle d m ≡ true → n ≡ m
   pub has_shared : (n : ℕ) → (kind_is kind.Shared d n ≡ true) ⊎ (kind_is kind.Mixed d n ≡ true) → (s : ℕ) × (shared d ≡ Some s)
 
--- there is at most one forward of a class, and an inv where there is a shared state
+-- there is at most one forward of a class, and an invalidation where there is a shared state
 pub record HasForwards (d : Draft) : Type 0 where
   pub one : (class : FwdClass) (f g : ℕ) → has_class class d f ≡ true → has_class class d g ≡ true → f ≡ g
   pub inv : (s : ℕ) → shared d ≡ Some s → (f : ℕ) × (forward_of d Inv ≡ Some f)
@@ -95,36 +95,36 @@ pub record HasRows (d : Draft) : Type 0 where
 
 -- where a READ leads, and that it ends
 pub record HasReads (d : Draft) : Type 0 where
-  pub memory : (n m s : ℕ) (r : RowLine) → dir_row d n (case.Ask Read Other) ≡ Some r → action_in r.form ≡ Some (action.Reply m) → final_of d Load Other m ≡ Some s
+  pub memory : (n m s : ℕ) (r : RowLine) → dir_row d n (case.Ask Read Other) ≡ Some r → action_in r.form ≡ Some (action.Reply m) → requestor_final d Load Other m ≡ Some s
       → ((kind_is kind.Shared d r.next ≡ true) × (shared d ≡ Some s))
       ⊎ ((kind_is kind.Idle d n ≡ true) × (kind_is kind.Owned d r.next ≡ true) × (lists d r.next s ≡ true) × (cache_is (λ c. is_owner c.role) d s ≡ true))
   pub share : (n f : ℕ) (r : RowLine) → dir_row d n (case.Ask Read Other) ≡ Some r → action_in r.form ≡ Some (action.Forward f) → has_class Share d f ≡ true
-      → (kind_is kind.Shared d r.next ≡ true) × ((x s : ℕ) → lists d n x ≡ true → final_by d Load Other f x ≡ Some s → shared d ≡ Some s)
+      → (kind_is kind.Shared d r.next ≡ true) × ((x s : ℕ) → lists d n x ≡ true → requestor_final_by d Load Other f x ≡ Some s → shared d ≡ Some s)
   pub keep : (n f : ℕ) (r : RowLine) → dir_row d n (case.Ask Read Other) ≡ Some r → action_in r.form ≡ Some (action.Forward f) → has_class Keep d f ≡ true
       → (kind_is kind.Mixed d r.next ≡ true) × ((x s : ℕ) → lists d n x ≡ true → keep_of d x ≡ Some s → lists d r.next s ≡ true)
-      × ((x s : ℕ) → lists d n x ≡ true → final_by d Load Other f x ≡ Some s → shared d ≡ Some s)
+      × ((x s : ℕ) → lists d n x ≡ true → requestor_final_by d Load Other f x ≡ Some s → shared d ≡ Some s)
   pub drop : (n f : ℕ) (r : RowLine) → dir_row d n (case.Ask Read Other) ≡ Some r → action_in r.form ≡ Some (action.Forward f) → has_class Drop d f ≡ true
       → (kind_is kind.Owned d r.next ≡ true)
-      × ((x s : ℕ) → lists d n x ≡ true → final_by d Load Other f x ≡ Some s → (lists d r.next s ≡ true) × (cache_is (λ c. is_owner c.role) d s ≡ true))
+      × ((x s : ℕ) → lists d n x ≡ true → requestor_final_by d Load Other f x ≡ Some s → (lists d r.next s ≡ true) × (cache_is (λ c. is_owner c.role) d s ≡ true))
   pub memory_final : (n m : ℕ) (r : RowLine) → dir_row d n (case.Ask Read Other) ≡ Some r → action_in r.form ≡ Some (action.Reply m)
-      → (s : ℕ) × (final_of d Load Other m ≡ Some s)
+      → (s : ℕ) × (requestor_final d Load Other m ≡ Some s)
   pub passed_final : (n f x : ℕ) (r : RowLine) → dir_row d n (case.Ask Read Other) ≡ Some r → action_in r.form ≡ Some (action.Forward f) → lists d n x ≡ true
-      → (s : ℕ) × (final_by d Load Other f x ≡ Some s)
+      → (s : ℕ) × (requestor_final_by d Load Other f x ≡ Some s)
 
 -- where a WRITE leads, and that it ends
 pub record HasWrites (d : Draft) : Type 0 where
   pub owned : (n : ℕ) (w : Who) (r : RowLine) → dir_row d n (case.Ask Write w) ≡ Some r → kind_is kind.Owned d r.next ≡ true
   pub memory : (n m s : ℕ) (w : Who) (r : RowLine) → dir_row d n (case.Ask Write w) ≡ Some r → action_in r.form ≡ Some (action.Reply m)
-      → final_of d Store w m ≡ Some s → lists d r.next s ≡ true
+      → requestor_final d Store w m ≡ Some s → lists d r.next s ≡ true
   pub passed : (n f x s : ℕ) (w : Who) (r : RowLine) → dir_row d n (case.Ask Write w) ≡ Some r → action_in r.form ≡ Some (action.Forward f)
-      → lists d n x ≡ true → final_by d Store w f x ≡ Some s → lists d r.next s ≡ true
+      → lists d n x ≡ true → requestor_final_by d Store w f x ≡ Some s → lists d r.next s ≡ true
   pub upgrade : (n x s : ℕ) (r : RowLine) → dir_row d n (case.Ask Write Owner) ≡ Some r → lists d n x ≡ true → cache_is is_read_owner d x ≡ true
-      → upgrade_of d x ≡ Some s → lists d r.next s ≡ true
+      → owner_store_final d x ≡ Some s → lists d r.next s ≡ true
   pub memory_final : (n m : ℕ) (w : Who) (r : RowLine) → dir_row d n (case.Ask Write w) ≡ Some r → action_in r.form ≡ Some (action.Reply m)
-      → (s : ℕ) × (final_of d Store w m ≡ Some s)
+      → (s : ℕ) × (requestor_final d Store w m ≡ Some s)
   pub passed_final : (n f x : ℕ) (w : Who) (r : RowLine) → dir_row d n (case.Ask Write w) ≡ Some r → action_in r.form ≡ Some (action.Forward f) → lists d n x ≡ true
-      → (s : ℕ) × (final_by d Store w f x ≡ Some s)
-  pub upgrade_final : (x : ℕ) → cache_is is_read_owner d x ≡ true → (s : ℕ) × (upgrade_of d x ≡ Some s)
+      → (s : ℕ) × (requestor_final_by d Store w f x ≡ Some s)
+  pub upgrade_final : (x : ℕ) → cache_is is_read_owner d x ≡ true → (s : ℕ) × (owner_store_final d x ≡ Some s)
 
 -- where an evict leads
 pub record HasEvicts (d : Draft) : Type 0 where
@@ -160,7 +160,7 @@ pub record HasCores (d : Draft) : Type 0 where
   pub store_count : (s : ℕ) (x : CoreLine) → cache_is is_read_owner d s ≡ true → core_row d s Store ≡ Some x
       → (t : ℕ) × (final_under reply.AckCount x.form ≡ Some t)
   pub store_final : (s t : ℕ) (name : ReplyName) (x : CoreLine) → core_row d s Store ≡ Some x → final_under name x.form ≡ Some t
-      → (cache_is is_dirty_writer d t ≡ true) × ((y : CoreLine) → core_row d t Store ≡ Some y → stays t y.form ≡ true)
+      → (cache_is is_dirty_writer d t ≡ true) × ((y : CoreLine) → core_row d t Store ≡ Some y → stays_at_store t y.form ≡ true)
   pub one_end : (s j k request : ℕ) (pairs : List Pair) (p q : Pair) (x : CoreLine) → core_row d s Store ≡ Some x → x.form ≡ Ask request pairs
       → slice_get pairs j ≡ Some p → slice_get pairs k ≡ Some q → p.fin ≡ q.fin
   pub evict : (s : ℕ) (x : CoreLine) → core_row d s Evict ≡ Some x → (m : ℕ) × (x.form ≡ Leave m)

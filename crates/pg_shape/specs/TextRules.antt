@@ -31,7 +31,7 @@ lacks_dirs d = not (has_kind kind.Idle d) || (is_some (shared d) && not (has_kin
 abbrev pub lacks_requests : Draft → Bool
 lacks_requests d = is_none (request_of d Read) || is_none (request_of d Write)
 
--- S6: there is a shared state and no inv forward
+-- S6: there is a shared state and no invalidation forward
 abbrev pub lacks_inv : Draft → Bool
 lacks_inv d = is_some (shared d) && is_none (forward_of d Inv)
 

@@ -41,8 +41,8 @@ fn has_shared(above: &[CacheLine]) -> bool
     above.iter().any(|line| is_shared(line.role))
 }
 
-fn owners(above: &[CacheLine]) -> usize
-    ensures { result ≡ cache.owners above.now }
+fn owner_count(above: &[CacheLine]) -> usize
+    ensures { result ≡ cache.owner_count above.now }
 {
     above.iter().filter(|line| is_owner(line.role)).count()
 }
@@ -52,7 +52,7 @@ fn is_one_too_many(above: &[CacheLine], line: &CacheLine) -> bool
 {
     (is_out(line.role) && has_out(above))
         || (is_shared(line.role) && has_shared(above))
-        || (is_owner(line.role) && owners(above) >= OWNER_LIMIT)
+        || (is_owner(line.role) && owner_count(above) >= OWNER_LIMIT)
 }
 
 fn is_needlessly_clean(line: &CacheLine) -> bool

@@ -126,8 +126,8 @@ fn is_asked(draft: &Draft, role: Role, event: Event, name: ReplyName) -> bool
     }
 }
 
-fn names(pairs: &[Pair], name: ReplyName) -> bool
-    ensures { result ≡ rule.names pairs.now name }
+fn names_reply(pairs: &[Pair], name: ReplyName) -> bool
+    ensures { result ≡ rule.names_reply pairs.now name }
 {
     pairs.iter().any(|pair| pair.reply == name)
 }
@@ -137,7 +137,7 @@ fn names_twice(pairs: &[Pair]) -> bool
 {
     let mut left = pairs;
     while let Some((pair, rest)) = left.split_first() {
-        if names(rest, pair.reply) {
+        if names_reply(rest, pair.reply) {
             return true;
         }
         left = rest;
@@ -153,10 +153,16 @@ fn names_another(draft: &Draft, role: Role, event: Event, pairs: &[Pair]) -> boo
         .any(|pair| !is_asked(draft, role, event, pair.reply))
 }
 
-fn misses(draft: &Draft, role: Role, event: Event, pairs: &[Pair], name: ReplyName) -> bool
-    ensures { result ≡ rule.misses draft.now role event pairs.now name }
+fn misses_reply_name(
+    draft: &Draft,
+    role: Role,
+    event: Event,
+    pairs: &[Pair],
+    name: ReplyName,
+) -> bool
+    ensures { result ≡ rule.misses_reply_name draft.now role event pairs.now name }
 {
-    is_asked(draft, role, event, name) && !names(pairs, name)
+    is_asked(draft, role, event, name) && !names_reply(pairs, name)
 }
 
 fn misses_below(draft: &Draft, role: Role, event: Event, pairs: &[Pair], below: u8) -> bool
@@ -165,7 +171,7 @@ fn misses_below(draft: &Draft, role: Role, event: Event, pairs: &[Pair], below: 
     let mut left = below;
     while left > 0 {
         left -= 1;
-        if misses(draft, role, event, pairs, ReplyName::Reply(left)) {
+        if misses_reply_name(draft, role, event, pairs, ReplyName::Reply(left)) {
             return true;
         }
     }
@@ -176,7 +182,7 @@ fn misses_reply(draft: &Draft, role: Role, event: Event, pairs: &[Pair]) -> bool
     requires { length draft.now.messages ≤ 32 }
     ensures { result ≡ rule.misses_reply draft.now role event pairs.now }
 {
-    misses(draft, role, event, pairs, ReplyName::AckCount)
+    misses_reply_name(draft, role, event, pairs, ReplyName::AckCount)
         || misses_below(draft, role, event, pairs, draft.messages.len() as u8)
 }
 
@@ -233,8 +239,8 @@ fn is_dirty_writer_state(draft: &Draft, state: u8) -> bool
         .is_some_and(is_dirty_writer)
 }
 
-fn stays(state: u8, form: &CoreForm) -> bool
-    ensures { result ≡ rule.stays state form.now }
+fn stays_at_store(state: u8, form: &CoreForm) -> bool
+    ensures { result ≡ rule.stays_at_store state form.now }
 {
     match form {
         CoreForm::Hit(None) => true,
@@ -247,7 +253,7 @@ fn moves_at_store(draft: &Draft, state: u8) -> bool
     ensures { result ≡ rule.moves_at_store draft.now state }
 {
     match core_row(draft, state, Event::Store) {
-        Some(row) => !stays(state, &row.form),
+        Some(row) => !stays_at_store(state, &row.form),
         None => false,
     }
 }
@@ -317,20 +323,20 @@ fn has_core_line(above: &[CoreLine], line: &CoreLine) -> bool
     above.iter().any(|other| other.state == line.state && other.event == line.event)
 }
 
-fn parts(state: u8, other: u8, line: &DirLine) -> bool
-    ensures { result ≡ rule.parts state other line.now }
+fn tells_apart(state: u8, other: u8, line: &DirLine) -> bool
+    ensures { result ≡ rule.tells_apart state other line.now }
 {
     lists_state(line.beside.as_slice(), state) != lists_state(line.beside.as_slice(), other)
 }
 
 fn are_parted(draft: &Draft, state: u8, other: u8) -> bool
-    ensures { result ≡ list_any (rule.parts state other) draft.now.dirs }
+    ensures { result ≡ list_any (rule.tells_apart state other) draft.now.dirs }
 {
     draft
         .dirs
         .as_slice()
         .iter()
-        .any(|line| parts(state, other, line))
+        .any(|line| tells_apart(state, other, line))
 }
 
 fn hits_wrongly(draft: &Draft, line: &CoreLine) -> bool

@@ -138,12 +138,12 @@ impl Judged for RowLine {
 }
 
 /// The first fault among lines, which are all of their kind.
-fn first_in<L: Judged>(draft: &Draft, lines: &[L]) -> Option<Fault>
+fn first_fault_in<L: Judged>(draft: &Draft, lines: &[L]) -> Option<Fault>
     requires kin { lines.now ≡ L.kin draft.now }
     requires caches { length draft.now.caches ≤ 16 }
     requires dirs { length draft.now.dirs ≤ 16 }
     requires messages { length draft.now.messages ≤ 32 }
-    ensures { result ≡ first.first_in L.line (L.breaks draft.now) 0 lines.now }
+    ensures { result ≡ first.first_fault_in L.line (L.breaks draft.now) 0 lines.now }
 {
     let mut number = 0;
     let mut left = lines;
@@ -178,10 +178,10 @@ pub fn shape_fault(draft: &Draft) -> Option<Fault>
     ensures { result ≡ first.shape_fault draft.now }
 {
     text_fault(draft)
-        .or_else(|| first_in(draft, draft.caches.as_slice()))
-        .or_else(|| first_in(draft, draft.dirs.as_slice()))
-        .or_else(|| first_in(draft, draft.messages.as_slice()))
-        .or_else(|| first_in(draft, draft.cores.as_slice()))
-        .or_else(|| first_in(draft, draft.takes.as_slice()))
-        .or_else(|| first_in(draft, draft.rows.as_slice()))
+        .or_else(|| first_fault_in(draft, draft.caches.as_slice()))
+        .or_else(|| first_fault_in(draft, draft.dirs.as_slice()))
+        .or_else(|| first_fault_in(draft, draft.messages.as_slice()))
+        .or_else(|| first_fault_in(draft, draft.cores.as_slice()))
+        .or_else(|| first_fault_in(draft, draft.takes.as_slice()))
+        .or_else(|| first_fault_in(draft, draft.rows.as_slice()))
 }

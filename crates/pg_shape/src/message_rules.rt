@@ -1,7 +1,7 @@
 //! The rules that the line of a request or a forward breaks.
 //!
 //! S5: a second read, a second write.
-//! S6: a second forward of one class, an inv without a shared state.
+//! S6: a second forward of one class, an invalidation without a shared state.
 ghost use Rattle.std.specs.Prelude.{◌≡◌, ◌≤◌, length};
 ghost use Rattle.std.specs.List.{list_any};
 ghost use Rattle.pg_terms.specs.Terms as term;

@@ -12,7 +12,7 @@ use pg_perm::{
 };
 use pg_terms::{
     core_row, final_under, has_class, is, is_owner_state, is_read_owner_state, keep_of, kind_is,
-    listed, lists, out, reply_to, request_of, shared,
+    listed_states, lists, out, reply_to, request_of, shared,
 };
 
 /// The core row of the state at a place.
@@ -23,9 +23,9 @@ fn core_row_at<'a>(draft: &'a Draft, place: usize, event: Event) -> Option<&'a C
         && line.event == event)
 }
 
-/// The core row of who asks.
-fn requester_row<'a>(draft: &'a Draft, event: Event, who: Who) -> Option<&'a CoreLine>
-    ensures { option_copied result ≡ rule.requester_row draft.now event who }
+/// The core row of the requestor.
+fn requestor_row<'a>(draft: &'a Draft, event: Event, who: Who) -> Option<&'a CoreLine>
+    ensures { option_copied result ≡ rule.requestor_row draft.now event who }
 {
     match who {
         Who::Other => core_row_at(draft, out(draft)?, event),
@@ -34,24 +34,24 @@ fn requester_row<'a>(draft: &'a Draft, event: Event, who: Who) -> Option<&'a Cor
     }
 }
 
-/// The final state of who asks, under a reply.
-fn final_of(draft: &Draft, event: Event, who: Who, reply: u8) -> Option<u8>
-    ensures { result ≡ rule.final_of draft.now event who reply }
+/// The final state of the requestor, under a reply.
+fn requestor_final(draft: &Draft, event: Event, who: Who, reply: u8) -> Option<u8>
+    ensures { result ≡ rule.requestor_final draft.now event who reply }
 {
-    let row = requester_row(draft, event, who)?;
+    let row = requestor_row(draft, event, who)?;
     final_under(ReplyName::Reply(reply), &row.form)
 }
 
-/// The final state of who asks, where an owner in a state answers.
-fn final_by(draft: &Draft, event: Event, who: Who, forward: u8, state: u8) -> Option<u8>
-    ensures { result ≡ rule.final_by draft.now event who forward state }
+/// The final state of the requestor, where an owner in a state answers.
+fn requestor_final_by(draft: &Draft, event: Event, who: Who, forward: u8, state: u8) -> Option<u8>
+    ensures { result ≡ rule.requestor_final_by draft.now event who forward state }
 {
-    final_of(draft, event, who, reply_to(draft, state, forward)?)
+    requestor_final(draft, event, who, reply_to(draft, state, forward)?)
 }
 
 /// The final state of a store of an owner.
-fn upgrade_of(draft: &Draft, state: u8) -> Option<u8>
-    ensures { result ≡ rule.upgrade_of draft.now state }
+fn owner_store_final(draft: &Draft, state: u8) -> Option<u8>
+    ensures { result ≡ rule.owner_store_final draft.now state }
 {
     let row = core_row(draft, state, Event::Store)?;
     final_under(ReplyName::AckCount, &row.form)
@@ -75,7 +75,7 @@ fn is_read_end(draft: &Draft, row: &RowLine, state: u8) -> bool
 fn reads_memory(draft: &Draft, row: &RowLine, who: Who, reply: u8) -> bool
     ensures { result ≡ rule.reads_memory draft.now row.now who reply }
 {
-    match final_of(draft, Event::Load, who, reply) {
+    match requestor_final(draft, Event::Load, who, reply) {
         Some(state) => is_read_end(draft, row, state),
         None => true,
     }
@@ -84,7 +84,7 @@ fn reads_memory(draft: &Draft, row: &RowLine, who: Who, reply: u8) -> bool
 fn is_shared_by(draft: &Draft, who: Who, forward: u8, owner: u8) -> bool
     ensures { result ≡ rule.is_shared_by draft.now who forward owner }
 {
-    match final_by(draft, Event::Load, who, forward, owner) {
+    match requestor_final_by(draft, Event::Load, who, forward, owner) {
         Some(state) => is(shared(draft), state),
         None => true,
     }
@@ -116,7 +116,7 @@ fn are_kept(draft: &Draft, next: u8, owners: &[u8]) -> bool
 fn is_owner_by(draft: &Draft, who: Who, next: u8, forward: u8, owner: u8) -> bool
     ensures { result ≡ rule.is_owner_by draft.now who next forward owner }
 {
-    match final_by(draft, Event::Load, who, forward, owner) {
+    match requestor_final_by(draft, Event::Load, who, forward, owner) {
         Some(state) => lists_owner(draft, next, state),
         None => true,
     }
@@ -133,7 +133,7 @@ fn are_owners(draft: &Draft, who: Who, next: u8, forward: u8, owners: &[u8]) -> 
 fn is_listed_by(draft: &Draft, who: Who, next: u8, forward: u8, owner: u8) -> bool
     ensures { result ≡ rule.is_listed_by draft.now who next forward owner }
 {
-    match final_by(draft, Event::Store, who, forward, owner) {
+    match requestor_final_by(draft, Event::Store, who, forward, owner) {
         Some(state) => lists(draft, next, state),
         None => true,
     }
@@ -150,7 +150,7 @@ fn are_listed(draft: &Draft, who: Who, next: u8, forward: u8, owners: &[u8]) -> 
 fn is_upgrade_listed(draft: &Draft, next: u8, owner: u8) -> bool
     ensures { result ≡ rule.is_upgrade_listed draft.now next owner }
 {
-    match upgrade_of(draft, owner) {
+    match owner_store_final(draft, owner) {
         Some(state) => !is_read_owner_state(draft, owner) || lists(draft, next, state),
         None => true,
     }
@@ -175,13 +175,13 @@ fn leads_to_shared(draft: &Draft, row: &RowLine, who: Who, forward: u8) -> bool
     ensures { result ≡ rule.leads_to_shared draft.now row.now who forward }
 {
     kind_is(DirKind::Shared, draft, row.next)
-        && are_shared(draft, who, forward, listed(draft, row.dir))
+        && are_shared(draft, who, forward, listed_states(draft, row.dir))
 }
 
 fn leads_to_mixed(draft: &Draft, row: &RowLine, who: Who, forward: u8) -> bool
     ensures { result ≡ rule.leads_to_mixed draft.now row.now who forward }
 {
-    let owners = listed(draft, row.dir);
+    let owners = listed_states(draft, row.dir);
     kind_is(DirKind::Mixed, draft, row.next)
         && are_kept(draft, row.next, owners)
         && are_shared(draft, who, forward, owners)
@@ -191,7 +191,7 @@ fn leads_to_owned(draft: &Draft, row: &RowLine, who: Who, forward: u8) -> bool
     ensures { result ≡ rule.leads_to_owned draft.now row.now who forward }
 {
     kind_is(DirKind::Owned, draft, row.next)
-        && are_owners(draft, who, row.next, forward, listed(draft, row.dir))
+        && are_owners(draft, who, row.next, forward, listed_states(draft, row.dir))
 }
 
 fn reads_owner(draft: &Draft, row: &RowLine, who: Who, forward: u8) -> bool
@@ -215,7 +215,7 @@ fn reads_rightly(draft: &Draft, row: &RowLine, who: Who, action: Action) -> bool
 fn is_final_listed(draft: &Draft, who: Who, next: u8, reply: u8) -> bool
     ensures { result ≡ rule.is_final_listed draft.now who next reply }
 {
-    match final_of(draft, Event::Store, who, reply) {
+    match requestor_final(draft, Event::Store, who, reply) {
         Some(state) => lists(draft, next, state),
         None => true,
     }
@@ -231,7 +231,7 @@ fn lists_writer(draft: &Draft, row: &RowLine, who: Who, action: Action) -> bool
             who,
             row.next,
             forward,
-            listed(draft, row.dir),
+            listed_states(draft, row.dir),
         ),
         Action::Count => true,
     }
@@ -243,7 +243,7 @@ fn writes_rightly(draft: &Draft, row: &RowLine, who: Who, action: Action) -> boo
     let is_owned = kind_is(DirKind::Owned, draft, row.next);
     match who {
         Who::Other | Who::Sharer => is_owned && lists_writer(draft, row, who, action),
-        Who::Owner => is_owned && are_upgraded(draft, row.next, listed(draft, row.dir)),
+        Who::Owner => is_owned && are_upgraded(draft, row.next, listed_states(draft, row.dir)),
     }
 }
 
@@ -256,7 +256,7 @@ fn keeps_owner(draft: &Draft, row: &RowLine, left: Left) -> bool
         }
         Left::More => kind_is(DirKind::Mixed, draft, row.next),
     };
-    has_owner && lists_each(draft, row.next, listed(draft, row.dir))
+    has_owner && lists_each(draft, row.next, listed_states(draft, row.dir))
 }
 
 fn leaves_rightly(draft: &Draft, row: &RowLine, left: Left) -> bool

@@ -57,8 +57,8 @@ fn is_reply(action: Action) -> bool
 }
 
 /// Whether the action passes the request on with a forward of a class.
-fn forwards(class: FwdClass, draft: &Draft, action: Action) -> bool
-    ensures { result ≡ rule.forwards class draft.now action }
+fn forwards_by_class(class: FwdClass, draft: &Draft, action: Action) -> bool
+    ensures { result ≡ rule.forwards_by_class class draft.now action }
 {
     match action {
         Action::Forward(forward) => has_class(class, draft, forward),
@@ -70,12 +70,12 @@ fn reads_by(draft: &Draft, dir: u8, action: Action) -> bool
     ensures { result ≡ rule.reads_by draft.now dir action }
 {
     (!kind_is(DirKind::Owned, draft, dir)
-        || forwards(FwdClass::Share, draft, action)
-        || forwards(FwdClass::Keep, draft, action)
-        || forwards(FwdClass::Drop, draft, action))
+        || forwards_by_class(FwdClass::Share, draft, action)
+        || forwards_by_class(FwdClass::Keep, draft, action)
+        || forwards_by_class(FwdClass::Drop, draft, action))
         && (!kind_is(DirKind::Mixed, draft, dir)
-            || forwards(FwdClass::Share, draft, action)
-            || forwards(FwdClass::Keep, draft, action))
+            || forwards_by_class(FwdClass::Share, draft, action)
+            || forwards_by_class(FwdClass::Keep, draft, action))
 }
 
 fn writes_by(draft: &Draft, dir: u8, who: Who, action: Action) -> bool
@@ -84,7 +84,7 @@ fn writes_by(draft: &Draft, dir: u8, who: Who, action: Action) -> bool
     match who {
         Who::Other | Who::Sharer => {
             !(kind_is(DirKind::Owned, draft, dir) || kind_is(DirKind::Mixed, draft, dir))
-                || forwards(FwdClass::Drop, draft, action)
+                || forwards_by_class(FwdClass::Drop, draft, action)
         }
         Who::Owner => action == Action::Count,
     }

@@ -9,7 +9,7 @@ use Rattle.pg_table.specs.declared.table.ControllerRow.{ControllerRow}
 use Rattle.pg_table.specs.declared.table.ControllerState.{ControllerState}
 use Rattle.pg_table.specs.Controllers.{ControllerChoice, GeneratedRow, row_for, rows_by, state_by, has_input_by, rows_for_by, find_row_by, state_at, table_row_by, table_state_by, table_by}
 use Rattle.pg_table.proofs.Same.{IsSame}
-use Rattle.pg_table.proofs.Lists.{IsIn, at_in, get_map, of_flat}
+use Rattle.pg_table.proofs.Lists.{IsIn, in_of_slice_get, get_map, of_flat}
 
 -- What is found
 
@@ -64,7 +64,7 @@ module _ {D I A : Type 0} (same : D → D → Bool) (inputs : List I) where
   -- a generated row is that of a choice
   pub row_choice : (choose : I → Option (ControllerChoice D A)) (k : ℕ) (g : GeneratedRow D I A) → slice_get (rows_by choose inputs) k ≡ Some g → choose g.input ≡ Some g.choice
   row_choice choose k g get =
-      let (i, there, among) = of_flat (λ i. row_for i (choose i)) g inputs (at_in (rows_by choose inputs) k g get) in
+      let (i, there, among) = of_flat (λ i. row_for i (choose i)) g inputs (in_of_slice_get (rows_by choose inputs) k g get) in
       let (of, chose) = row_for_in i (choose i) g among in
       ap choose of ∙ chose
 

@@ -24,7 +24,7 @@ use Rattle.pg_table.specs.declared.cache.Phase.{Phase}
 use Rattle.pg_table.specs.declared.cache.Phase.TheVariants.{D, Ad, Ac, A}
 use Rattle.pg_table.specs.declared.cache.Tag.{Tag}
 use Rattle.pg_table.specs.declared.cache.Tag.TheVariants.{Plain, Kept, Gave, Gone}
-use Rattle.pg_table.specs.Descriptors.{out_state, is_tag_of, tags, states, starts, first_states, waiting_states, store_states, descs}
+use Rattle.pg_table.specs.Descriptors.{out_state, is_tag_of, tags, stable_states, store_starts, first_states, waiting_states, store_states, descs}
 use Rattle.pg_perm.specs.contracts.kinds.Event.{the_type as event_type}
 use Rattle.pg_table.specs.contracts.cache.Phase.{the_type as phase_type}
 use Rattle.pg_table.specs.contracts.cache.Tag.{the_type as tag_type}
@@ -138,16 +138,16 @@ owner_is_ranked d s is =
     let (c, get, role) = map_or_get is_read_owner (slice_get d.caches s) is in
     rank_at d s c get ∙ ap (λ r. role_rank (Some r)) (role_owner c.role (and_parts (is_owner c.role) (is_read_perm c.perm) role).0)
 
-distinct_starts : (d : Draft) → HasPerms d → IsDistinct (λ n m. n == m) (starts d)
+distinct_starts : (d : Draft) → HasPerms d → IsDistinct (λ n m. n == m) (store_starts d)
 unfolding IsDistinct
 distinct_starts d perms =
-    (ranked_append (λ n m. n == m) (rank_of d) ranked 2 (out_state d ∷ option_map_or (λ s. s ∷ []) (shared d) []) (filter (cache_is is_read_owner d) (states d))
+    (ranked_append (λ n m. n == m) (rank_of d) ranked 2 (out_state d ∷ option_map_or (λ s. s ∷ []) (shared d) []) (filter (cache_is is_read_owner d) (stable_states d))
     (ranked_append (λ n m. n == m) (rank_of d) ranked 1 (out_state d ∷ []) (option_map_or (λ s. s ∷ []) (shared d) [])
     record { distinct = (tt, tt); below = (omega (arith, out_is_ranked d perms), tt) }
     (one (shared d)) (of_shared (shared d) refl))
-    (distinct_filter (λ n m. n == m) (cache_is is_read_owner d) (states d) (distinct_numbers 0 (length d.caches)))
-    (each_weaken (λ s. cache_is is_read_owner d s ≡ true) (λ s. rank_of d s ≡ 2) (owner_is_ranked d) (filter (cache_is is_read_owner d) (states d))
-    (each_passes (cache_is is_read_owner d) (states d)))).distinct
+    (distinct_filter (λ n m. n == m) (cache_is is_read_owner d) (stable_states d) (distinct_numbers 0 (length d.caches)))
+    (each_weaken (λ s. cache_is is_read_owner d s ≡ true) (λ s. rank_of d s ≡ 2) (owner_is_ranked d) (filter (cache_is is_read_owner d) (stable_states d))
+    (each_passes (cache_is is_read_owner d) (stable_states d)))).distinct
   where
     ranked : (n m : ℕ) → (n == m) ≡ true → rank_of d n ≡ rank_of d m
     ranked n m same = ap (rank_of d) (eqb-true n m same)
@@ -178,19 +178,19 @@ leaves_last d perms = let (s, e) = perms.start in rw e (rw (eq-eqb s s refl) ref
 pub descs_distinct : (d : Draft) (m : Mode) → IsWellFormed d → IsShaped d → IsDistinct same_desc (descs d m)
 descs_distinct d m w shape =
     let sections = λ (a b : Desc) (same : same_desc a b ≡ true). ap (section d) (same_desc_is a b same) in
-    let stable : IsRanked same_desc (section d) 1 (map (λ s. Stable s) (states d)) = record {
-      distinct = distinct_map (λ n m. n == m) same_desc (λ s. Stable s) (λ n m apart. apart) (states d) (distinct_numbers 0 (length d.caches));
-      below = each_any (λ x. section d x < 1) (λ s. Stable s) (λ s. omega arith) (states d);
+    let stable : IsRanked same_desc (section d) 1 (map (λ s. Stable s) (stable_states d)) = record {
+      distinct = distinct_map (λ n m. n == m) same_desc (λ s. Stable s) (λ n m apart. apart) (stable_states d) (distinct_numbers 0 (length d.caches));
+      below = each_any (λ x. section d x < 1) (λ s. Stable s) (λ s. omega arith) (stable_states d);
     } in
     let loads = ranked_append same_desc (section d) sections 1 _ (map (λ t. Ask Load (out_state d) D t) (tags d m (out_state d) Load)) stable
     (distinct_asks d m (out_state d) Load D) (each_any (λ x. section d x ≡ 1) (λ t. Ask Load (out_state d) D t) (λ t. refl) (tags d m (out_state d) Load)) in
-    let stores = ranked_append same_desc (section d) sections 2 _ (flat_map (store_states d m) (starts d)) loads
+    let stores = ranked_append same_desc (section d) sections 2 _ (flat_map (store_states d m) (store_starts d)) loads
     (distinct_flat_map same_desc began (λ a b same. ap began (same_desc_is a b same)) (store_states d m) (distinct_stores d m)
-    (λ s. each_store (λ x. began x ≡ s) d m s (λ phase tag. refl)) (starts d) (distinct_starts d shape.perms))
-    (each_flat_map_any (λ x. section d x ≡ 2) (store_states d m) (λ s. each_store (λ x. section d x ≡ 2) d m s (λ phase tag. refl)) (starts d)) in
-    let evicts = ranked_append same_desc (section d) sections 3 _ (map (λ s. Leave s) (filter (λ s. not (is (out d) s)) (states d))) stores
-    (distinct_map (λ n m. n == m) same_desc (λ s. Leave s) (λ n m apart. apart) (filter (λ s. not (is (out d) s)) (states d))
-    (distinct_filter (λ n m. n == m) (λ s. not (is (out d) s)) (states d) (distinct_numbers 0 (length d.caches))))
-    (each_map (λ s. not (is (out d) s) ≡ true) (λ x. section d x ≡ 3) (λ s. Leave s) (leaves_before d) (filter (λ s. not (is (out d) s)) (states d))
-    (each_passes (λ s. not (is (out d) s)) (states d))) in
+    (λ s. each_store (λ x. began x ≡ s) d m s (λ phase tag. refl)) (store_starts d) (distinct_starts d shape.perms))
+    (each_flat_map_any (λ x. section d x ≡ 2) (store_states d m) (λ s. each_store (λ x. section d x ≡ 2) d m s (λ phase tag. refl)) (store_starts d)) in
+    let evicts = ranked_append same_desc (section d) sections 3 _ (map (λ s. Leave s) (filter (λ s. not (is (out d) s)) (stable_states d))) stores
+    (distinct_map (λ n m. n == m) same_desc (λ s. Leave s) (λ n m apart. apart) (filter (λ s. not (is (out d) s)) (stable_states d))
+    (distinct_filter (λ n m. n == m) (λ s. not (is (out d) s)) (stable_states d) (distinct_numbers 0 (length d.caches))))
+    (each_map (λ s. not (is (out d) s) ≡ true) (λ x. section d x ≡ 3) (λ s. Leave s) (leaves_before d) (filter (λ s. not (is (out d) s)) (stable_states d))
+    (each_passes (λ s. not (is (out d) s)) (stable_states d))) in
     (ranked_append same_desc (section d) sections 4 _ (Leave (out_state d) ∷ []) evicts (one_state (Leave (out_state d))) (leaves_last d shape.perms, tt)).distinct

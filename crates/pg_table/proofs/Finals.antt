@@ -18,15 +18,15 @@ use Rattle.pg_perm.specs.declared.draft.CoreForm.TheVariants.{Hit, Ask, Leave}
 use Rattle.pg_perm.specs.Drafts.{has_cache, has_message, has_reply_name, has_pair, has_core_form, has_take, IsWellFormed}
 use Rattle.pg_perm.specs.Classes.{is_request, is_forward, is_reply}
 use Rattle.pg_terms.specs.Terms.{shared, forward_of, core_row, take_row, keep_of}
-use Rattle.pg_terms.specs.Rows.{store_next, may_keep, final_under, final}
+use Rattle.pg_terms.specs.Rows.{store_next, may_keep, final_under, final_state}
 use Rattle.pg_shape.proofs.Bools.{three_and}
 use Rattle.pg_shape.proofs.Searches.{find_get, all_at}
 use Rattle.pg_shape.proofs.Cores.{four_and, all_formed, core_formed, core_row_get, final_get}
 use Rattle.pg_table.specs.declared.cache.Tag.{Tag}
 use Rattle.pg_table.specs.declared.cache.Tag.TheVariants.{Plain, Kept, Gave, Gone}
-use Rattle.pg_table.specs.Descriptors.{may_give, after, finals_in, finals}
+use Rattle.pg_table.specs.Descriptors.{may_give, end_under_tag, final_states_in, final_states}
 use Rattle.pg_table.specs.Choices.{store_final}
-use Rattle.pg_table.proofs.Lists.{IsIn, at_in, all_in, in_map, of_map}
+use Rattle.pg_table.proofs.Lists.{IsIn, in_of_slice_get, all_in, in_map, of_map}
 use Rattle.pg_table.proofs.Members.{out_below, shared_below}
 
 -- Rows of well-formed drafts
@@ -64,7 +64,7 @@ asks_formed d Store request pairs h =
     let (a, b, c) = three_and (has_message is_request d request) (list_all (has_pair d) pairs) (nat_lt 0 (length pairs)) h in (b, ltb-true 0 (length pairs) c)
 asks_formed d Evict request pairs h = absurd cc
 
-in_form_below : (d : Draft) (event : Event) (x : ℕ) (f : CoreForm) → has_core_form d event f ≡ true → IsIn x (finals_in f) → x < length d.caches
+in_form_below : (d : Draft) (event : Event) (x : ℕ) (f : CoreForm) → has_core_form d event f ≡ true → IsIn x (final_states_in f) → x < length d.caches
 in_form_below d event x (Hit next) formed among = absurd among
 in_form_below d event x (Ask request pairs) formed among =
     let (p, there, e) = of_map (λ p. p.fin) x pairs among in
@@ -73,37 +73,37 @@ in_form_below d event x (Ask request pairs) formed among =
 in_form_below d event x (Leave request) formed among = absurd among
 
 -- a final state is a state
-pub final_below : (d : Draft) (s : ℕ) (event : Event) (x : ℕ) → IsWellFormed d → IsIn x (finals d s event) → x < length d.caches
+pub final_below : (d : Draft) (s : ℕ) (event : Event) (x : ℕ) → IsWellFormed d → IsIn x (final_states d s event) → x < length d.caches
 final_below d s event x well among = at (core_row d s event) refl among
   where
-    at : (o : Option CoreLine) → core_row d s event ≡ o → IsIn x (option_map_or (λ l. finals_in l.form) o []) → x < length d.caches
+    at : (o : Option CoreLine) → core_row d s event ≡ o → IsIn x (option_map_or (λ l. final_states_in l.form) o []) → x < length d.caches
     at None e among = absurd among
     at (Some l) e among = in_form_below d event x l.form (row_is_formed d s event l well e) among
 
 -- there is a final state where the row asks
 pub asking_ends : (d : Draft) (s : ℕ) (event : Event) (l : CoreLine) (request : ℕ) (pairs : List Pair) → IsWellFormed d → core_row d s event ≡ Some l
-    → l.form ≡ Ask request pairs → (x : ℕ) × IsIn x (finals d s event)
+    → l.form ≡ Ask request pairs → (x : ℕ) × IsIn x (final_states d s event)
 asking_ends d s event l request pairs well row asks =
     let formed : has_core_form d event (Ask request pairs) ≡ true = subst (λ (f : CoreForm). has_core_form d event f ≡ true) asks (row_is_formed d s event l well row) in
-    let all : finals d s event ≡ map (λ p. p.fin) pairs = ap (λ (o : Option CoreLine). option_map_or (λ l. finals_in l.form) o []) row ∙ ap finals_in asks in
+    let all : final_states d s event ≡ map (λ p. p.fin) pairs = ap (λ (o : Option CoreLine). option_map_or (λ l. final_states_in l.form) o []) row ∙ ap final_states_in asks in
     subst (λ (xs : List ℕ). (x : ℕ) × IsIn x xs) (sym all) (some pairs (asks_formed d event request pairs formed).1)
   where
     some : (ps : List Pair) → 0 < length ps → (x : ℕ) × IsIn x (map (λ p. p.fin) ps)
     some [] h = absurd (omega (arith, h))
     some (p ∷ ps) h = (p.fin, inl refl)
 
-under_in : (name : ReplyName) (f : CoreForm) (x : ℕ) → final_under name f ≡ Some x → IsIn x (finals_in f)
+under_in : (name : ReplyName) (f : CoreForm) (x : ℕ) → final_under name f ≡ Some x → IsIn x (final_states_in f)
 under_in name (Hit next) x h = absurd cc
 under_in name (Ask request pairs) x h =
     let (k, p, get, same, is) = final_get name pairs x h in
-    subst (λ n. IsIn n (map (λ p. p.fin) pairs)) is (in_map (λ p. p.fin) p pairs (at_in pairs k p get))
+    subst (λ n. IsIn n (map (λ p. p.fin) pairs)) is (in_map (λ p. p.fin) p pairs (in_of_slice_get pairs k p get))
 under_in name (Leave request) x h = absurd cc
 
 -- the state that an operation ends in under a reply is one of its final states
-pub final_in : (d : Draft) (s : ℕ) (event : Event) (name : ReplyName) (x : ℕ) → final d s event name ≡ Some x → IsIn x (finals d s event)
+pub final_in : (d : Draft) (s : ℕ) (event : Event) (name : ReplyName) (x : ℕ) → final_state d s event name ≡ Some x → IsIn x (final_states d s event)
 final_in d s event name x h = at (core_row d s event) h
   where
-    at : (o : Option CoreLine) → option_and_then (λ c. final_under name c.form) o ≡ Some x → IsIn x (option_map_or (λ l. finals_in l.form) o [])
+    at : (o : Option CoreLine) → option_and_then (λ c. final_under name c.form) o ≡ Some x → IsIn x (option_map_or (λ l. final_states_in l.form) o [])
     at None h = absurd cc
     at (Some l) h = under_in name l.form x h
 
@@ -126,7 +126,7 @@ keep_below d s x well e = at (forward_of d Keep) e
     at (Some f) e = next f (take_row d s f) refl e
 
 -- they lead a final state to a state
-pub after_below : (d : Draft) (f x : ℕ) (tag : Tag) → IsWellFormed d → f < length d.caches → after d f tag ≡ Some x → x < length d.caches
+pub after_below : (d : Draft) (f x : ℕ) (tag : Tag) → IsWellFormed d → f < length d.caches → end_under_tag d f tag ≡ Some x → x < length d.caches
 after_below d f x Plain well below e = subst (λ n. n < length d.caches) (same_Some f x e) below
 after_below d f x Kept well below e = at (may_keep d f) e
   where

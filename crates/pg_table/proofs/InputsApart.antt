@@ -11,7 +11,7 @@ use Rattle.pg_perm.specs.declared.draft.MsgClass.{MsgClass}
 use Rattle.pg_perm.specs.Classes.{is_forward, is_reply}
 use Rattle.pg_table.specs.declared.cache.Input.{Input}
 use Rattle.pg_table.specs.declared.cache.Input.TheVariants as at
-use Rattle.pg_table.specs.Generated.{messages_from, inputs}
+use Rattle.pg_table.specs.GeneratedStates.{messages_from, inputs}
 use Rattle.pg_table.specs.Tables.{same_input}
 use Rattle.pg_table.proofs.Same.{same_input_is}
 use Rattle.pg_table.proofs.Apart.{each_any, each_weaken, each_flat_map_any, distinct_map, distinct_flat_map, ranked_append}
@@ -45,19 +45,19 @@ numbers_distinct p n (m ∷ ms) = at (p m.class) (numbers_distinct p (n + 1) ms)
 
 -- Three parts: operations and forwards, what the directory and the owner answer, and acknowledgements
 
-abbrev pub firsts : Draft → List Input
-firsts d = at.Core Load ∷ at.Core Store ∷ at.Core Evict ∷ map (λ f. at.Forward f) (messages_from is_forward 0 d.messages)
+abbrev pub first_inputs : Draft → List Input
+first_inputs d = at.Core Load ∷ at.Core Store ∷ at.Core Evict ∷ map (λ f. at.Forward f) (messages_from is_forward 0 d.messages)
 
-abbrev pub data_of : ℕ → List Input
-data_of r = at.DataAll r ∷ at.DataPart r ∷ []
+abbrev pub data_inputs_of : ℕ → List Input
+data_inputs_of r = at.DataAll r ∷ at.DataPart r ∷ []
 
-abbrev pub answers : Draft → List Input
-answers d = at.CountAll ∷ at.CountPart ∷ at.PutAck ∷ flat_map data_of (messages_from is_reply 0 d.messages)
+abbrev pub data_inputs : Draft → List Input
+data_inputs d = at.CountAll ∷ at.CountPart ∷ at.PutAck ∷ flat_map data_inputs_of (messages_from is_reply 0 d.messages)
 
-abbrev pub acks : List Input
-acks = at.AckMore ∷ at.AckLast ∷ []
+abbrev pub ack_inputs : List Input
+ack_inputs = at.AckMore ∷ at.AckLast ∷ []
 
-firsts_distinct : (d : Draft) → IsDistinct same_input (firsts d)
+firsts_distinct : (d : Draft) → IsDistinct same_input (first_inputs d)
 unfolding IsDistinct
 firsts_distinct d =
     let others = λ (e : Event). each_any (λ j. same_input (at.Core e) j ≡ false) (λ f. at.Forward f) (λ f. refl) (messages_from is_forward 0 d.messages) in (
@@ -78,22 +78,22 @@ message_of (at.DataAll r) = r
 message_of (at.DataPart r) = r
 message_of _ = 0
 
-data_distinct : (d : Draft) → IsDistinct same_input (flat_map data_of (messages_from is_reply 0 d.messages))
+data_distinct : (d : Draft) → IsDistinct same_input (flat_map data_inputs_of (messages_from is_reply 0 d.messages))
 unfolding IsDistinct
 data_distinct d =
-    distinct_flat_map same_input message_of (λ a b same. ap message_of (same_input_is a b same)) data_of (λ r. ((refl, tt), (tt, tt))) (λ r. (refl, (refl, tt)))
+    distinct_flat_map same_input message_of (λ a b same. ap message_of (same_input_is a b same)) data_inputs_of (λ r. ((refl, tt), (tt, tt))) (λ r. (refl, (refl, tt)))
     (messages_from is_reply 0 d.messages) (numbers_distinct is_reply 0 d.messages)
 
-answers_distinct : (d : Draft) → IsDistinct same_input (answers d)
+answers_distinct : (d : Draft) → IsDistinct same_input (data_inputs d)
 unfolding IsDistinct
 answers_distinct d =
     let others = λ (i : Input) (all : (r : ℕ) → same_input i (at.DataAll r) ≡ false) (part : (r : ℕ) → same_input i (at.DataPart r) ≡ false).
-    each_flat_map_any (λ j. same_input i j ≡ false) data_of (λ r. (all r, (part r, tt))) (messages_from is_reply 0 d.messages) in (
+    each_flat_map_any (λ j. same_input i j ≡ false) data_inputs_of (λ r. (all r, (part r, tt))) (messages_from is_reply 0 d.messages) in (
       (refl, (refl, others at.CountAll (λ r. refl) (λ r. refl))),
       ((refl, others at.CountPart (λ r. refl) (λ r. refl)), (others at.PutAck (λ r. refl) (λ r. refl), data_distinct d)),
     )
 
-acks_distinct : IsDistinct same_input acks
+acks_distinct : IsDistinct same_input ack_inputs
 unfolding IsDistinct
 acks_distinct = ((refl, tt), (tt, tt))
 
@@ -105,19 +105,19 @@ part_of at.AckMore = 2
 part_of at.AckLast = 2
 part_of _ = 1
 
-first_parts : (d : Draft) → AllByRecursion (λ x. part_of x < 1) (firsts d)
+first_parts : (d : Draft) → AllByRecursion (λ x. part_of x < 1) (first_inputs d)
 first_parts d =
     let rest = each_any (λ x. part_of x < 1) (λ f. at.Forward f) (λ f. omega arith) (messages_from is_forward 0 d.messages) in
     (omega arith, (omega arith, (omega arith, rest)))
 
-answer_parts : (d : Draft) → AllByRecursion (λ x. part_of x ≡ 1) (answers d)
+answer_parts : (d : Draft) → AllByRecursion (λ x. part_of x ≡ 1) (data_inputs d)
 answer_parts d =
-    (refl, (refl, (refl, each_flat_map_any (λ x. part_of x ≡ 1) data_of (λ r. (refl, (refl, tt))) (messages_from is_reply 0 d.messages))))
+    (refl, (refl, (refl, each_flat_map_any (λ x. part_of x ≡ 1) data_inputs_of (λ r. (refl, (refl, tt))) (messages_from is_reply 0 d.messages))))
 
 -- no input stands twice
 pub inputs_distinct : (d : Draft) → IsDistinct same_input (inputs d)
 inputs_distinct d =
     let parts = λ (a b : Input) (same : same_input a b ≡ true). ap part_of (same_input_is a b same) in
-    let front = ranked_append same_input part_of parts 1 (firsts d) (answers d)
+    let front = ranked_append same_input part_of parts 1 (first_inputs d) (data_inputs d)
     record { distinct = firsts_distinct d; below = first_parts d } (answers_distinct d) (answer_parts d) in
-    (ranked_append same_input part_of parts 2 (firsts d ++ answers d) acks front acks_distinct (refl, (refl, tt))).distinct
+    (ranked_append same_input part_of parts 2 (first_inputs d ++ data_inputs d) ack_inputs front acks_distinct (refl, (refl, tt))).distinct

@@ -12,16 +12,16 @@ IsIn x (y ∷ ys) = (y ≡ x) ⊎ IsIn x ys
 
 -- Places
 
-pub at_in : {X : Type 0} (xs : List X) (k : ℕ) (x : X) → slice_get xs k ≡ Some x → IsIn x xs
-at_in [] k x h = absurd cc
-at_in (y ∷ ys) zero x h = inl (same_Some y x h)
-at_in (y ∷ ys) (suc k) x h = inr (at_in ys k x h)
+pub in_of_slice_get : {X : Type 0} (xs : List X) (k : ℕ) (x : X) → slice_get xs k ≡ Some x → IsIn x xs
+in_of_slice_get [] k x h = absurd cc
+in_of_slice_get (y ∷ ys) zero x h = inl (same_Some y x h)
+in_of_slice_get (y ∷ ys) (suc k) x h = inr (in_of_slice_get ys k x h)
 
 -- what stands in a list stands at some place
-pub in_at : {X : Type 0} (xs : List X) (x : X) → IsIn x xs → (k : ℕ) × (slice_get xs k ≡ Some x)
-in_at [] x among = absurd among
-in_at (y ∷ ys) x (inl e) = (0, ap Some e)
-in_at (y ∷ ys) x (inr among) = let (k, e) = in_at ys x among in (suc k, e)
+pub slice_get_of_in : {X : Type 0} (xs : List X) (x : X) → IsIn x xs → (k : ℕ) × (slice_get xs k ≡ Some x)
+slice_get_of_in [] x among = absurd among
+slice_get_of_in (y ∷ ys) x (inl e) = (0, ap Some e)
+slice_get_of_in (y ∷ ys) x (inr among) = let (k, e) = slice_get_of_in ys x among in (suc k, e)
 
 -- what stands at a place of a mapped list is made of what stands there
 pub get_map : {X Y : Type 0} (f : X → Y) (xs : List X) (k : ℕ) (y : Y) → slice_get (map f xs) k ≡ Some y → (x : X) × (slice_get xs k ≡ Some x) × (f x ≡ y)
@@ -56,7 +56,7 @@ pub any_map : {X Y : Type 0} (p : Y → Bool) (f : X → Y) (xs : List X) → li
 any_map p f [] = refl
 any_map p f (x ∷ xs) = ap (λ b. p (f x) || b) (any_map p f xs)
 
--- Two lists, one behind the other
+-- Two lists, one after the other
 
 pub in_left : {X : Type 0} (x : X) (xs ys : List X) → IsIn x xs → IsIn x (xs ++ ys)
 in_left x [] ys among = absurd among

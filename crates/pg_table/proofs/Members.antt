@@ -13,13 +13,13 @@ use Rattle.pg_perm.specs.declared.draft.CacheLine.{CacheLine}
 use Rattle.pg_terms.specs.Terms.{is, is_out, is_shared, is_owner, is_read_owner, cache_is, out, shared}
 use Rattle.pg_shape.specs.Shaped.{HasPerms}
 use Rattle.pg_shape.proofs.Searches.{position_get, map_or_get}
-use Rattle.pg_shape.proofs.Shaped.{is_one}
+use Rattle.pg_shape.proofs.Shaped.{is_then_some}
 use Rattle.pg_table.specs.declared.cache.Desc.{Desc}
 use Rattle.pg_table.specs.declared.cache.Desc.TheVariants.{Stable, Ask, Leave}
 use Rattle.pg_table.specs.declared.cache.Phase.TheVariants.{D, Ad, Ac, A}
 use Rattle.pg_table.specs.declared.cache.Tag.{Tag}
 use Rattle.pg_table.specs.declared.cache.Tag.TheVariants.{Plain, Kept, Gave, Gone}
-use Rattle.pg_table.specs.Descriptors.{out_state, is_tag_of, tags, states, starts, first_states, waiting_states, store_states, descs}
+use Rattle.pg_table.specs.Descriptors.{out_state, is_tag_of, tags, stable_states, store_starts, first_states, waiting_states, store_states, descs}
 use Rattle.pg_table.specs.Tables.{same_desc}
 use Rattle.pg_table.specs.Sound.{is_among}
 use Rattle.pg_table.proofs.Same.{same_desc_is, same_desc_self}
@@ -54,16 +54,16 @@ pub shared_below : (d : Draft) (s : ℕ) → shared d ≡ Some s → s < length 
 shared_below d s e = (position_get (λ c. is_shared c.role) d.caches s e).0
 
 -- there is an out state
-pub out_is : (d : Draft) → HasPerms d → out d ≡ Some (out_state d)
-out_is d perms = let (s, e) = perms.start in subst (λ (o : Option ℕ). o ≡ Some (unwrap_or o 0)) (sym e) refl
+pub out_is_out_state : (d : Draft) → HasPerms d → out d ≡ Some (out_state d)
+out_is_out_state d perms = let (s, e) = perms.start in subst (λ (o : Option ℕ). o ≡ Some (unwrap_or o 0)) (sym e) refl
 
 pub out_one : (d : Draft) (s : ℕ) → out d ≡ Some s → out_state d ≡ s
 out_one d s e = ap (λ (o : Option ℕ). unwrap_or o 0) e
 
-in_states : (d : Draft) (s : ℕ) → s < length d.caches → IsIn s (states d)
+in_states : (d : Draft) (s : ℕ) → s < length d.caches → IsIn s (stable_states d)
 in_states d s h = in_numbers 0 (length d.caches) s (omega arith) (omega (arith, h))
 
-of_states : (d : Draft) (s : ℕ) → IsIn s (states d) → s < length d.caches
+of_states : (d : Draft) (s : ℕ) → IsIn s (stable_states d) → s < length d.caches
 of_states d s among = omega (arith, (of_numbers 0 (length d.caches) s among).1)
 
 -- Tags
@@ -97,19 +97,19 @@ of_option (Some t) s (inr none) = absurd none
 test_below : (p : CacheLine → Bool) (d : Draft) (s : ℕ) → cache_is p d s ≡ true → s < length d.caches
 test_below p d s h = let (c, get, t) = map_or_get p (slice_get d.caches s) h in slice_get_within d.caches s c get
 
-in_starts : (d : Draft) (s : ℕ) → IsStart d s → IsIn s (starts d)
+in_starts : (d : Draft) (s : ℕ) → IsStart d s → IsIn s (store_starts d)
 in_starts d s (inl e) = inl (out_one d s e)
-in_starts d s (inr (inl e)) = inr (in_left s (option_map_or (λ s. s ∷ []) (shared d) []) (filter (cache_is is_read_owner d) (states d)) (in_option (shared d) s e))
-in_starts d s (inr (inr h)) = inr (in_right s (option_map_or (λ s. s ∷ []) (shared d) []) (filter (cache_is is_read_owner d) (states d))
-    (in_filter (cache_is is_read_owner d) s (states d) h (in_states d s (test_below is_read_owner d s h))))
+in_starts d s (inr (inl e)) = inr (in_left s (option_map_or (λ s. s ∷ []) (shared d) []) (filter (cache_is is_read_owner d) (stable_states d)) (in_option (shared d) s e))
+in_starts d s (inr (inr h)) = inr (in_right s (option_map_or (λ s. s ∷ []) (shared d) []) (filter (cache_is is_read_owner d) (stable_states d))
+    (in_filter (cache_is is_read_owner d) s (stable_states d) h (in_states d s (test_below is_read_owner d s h))))
 
-of_starts : (d : Draft) (s : ℕ) → HasPerms d → IsIn s (starts d) → IsStart d s
-of_starts d s perms (inl e) = inl (out_is d perms ∙ ap Some e)
-of_starts d s perms (inr among) = at (in_either s (option_map_or (λ s. s ∷ []) (shared d) []) (filter (cache_is is_read_owner d) (states d)) among)
+of_starts : (d : Draft) (s : ℕ) → HasPerms d → IsIn s (store_starts d) → IsStart d s
+of_starts d s perms (inl e) = inl (out_is_out_state d perms ∙ ap Some e)
+of_starts d s perms (inr among) = at (in_either s (option_map_or (λ s. s ∷ []) (shared d) []) (filter (cache_is is_read_owner d) (stable_states d)) among)
   where
-    at : IsIn s (option_map_or (λ s. s ∷ []) (shared d) []) ⊎ IsIn s (filter (cache_is is_read_owner d) (states d)) → IsStart d s
+    at : IsIn s (option_map_or (λ s. s ∷ []) (shared d) []) ⊎ IsIn s (filter (cache_is is_read_owner d) (stable_states d)) → IsStart d s
     at (inl a) = inr (inl (of_option (shared d) s a))
-    at (inr b) = inr (inr (of_filter (cache_is is_read_owner d) s (states d) b).1)
+    at (inr b) = inr (inr (of_filter (cache_is is_read_owner d) s (stable_states d) b).1)
 
 -- The states of the controller
 
@@ -136,23 +136,23 @@ of_waiting d m s x start among = at (is_some (shared d)) refl among
     at true e among = of_each d m s Store (λ t. Ask Store s A t) x (λ t has. (start, e, has)) among
     at false e none = absurd none
 
-of_stores : (d : Draft) (m : Mode) (x : Desc) → HasPerms d → IsIn x (flat_map (store_states d m) (starts d)) → IsState d m x
+of_stores : (d : Draft) (m : Mode) (x : Desc) → HasPerms d → IsIn x (flat_map (store_states d m) (store_starts d)) → IsState d m x
 of_stores d m x perms among = at s.0 (of_starts d s.0 perms s.1) (in_either x (first_states d m s.0) (waiting_states d m s.0) s.2)
   where
-    s : (s : ℕ) × IsIn s (starts d) × IsIn x (store_states d m s)
-    s = of_flat (store_states d m) x (starts d) among
+    s : (s : ℕ) × IsIn s (store_starts d) × IsIn x (store_states d m s)
+    s = of_flat (store_states d m) x (store_starts d) among
 
     at : (s : ℕ) → IsStart d s → IsIn x (first_states d m s) ⊎ IsIn x (waiting_states d m s) → IsState d m x
     at s start (inl a) = of_first d m s x start a
     at s start (inr b) = of_waiting d m s x start b
 
-of_stable : (d : Draft) (m : Mode) (x : Desc) → IsIn x (map (λ s. Stable s) (states d)) → IsState d m x
-of_stable d m x among = let (s, there, e) = of_map (λ s. Stable s) x (states d) among in subst (IsState d m) e (of_states d s there)
+of_stable : (d : Draft) (m : Mode) (x : Desc) → IsIn x (map (λ s. Stable s) (stable_states d)) → IsState d m x
+of_stable d m x among = let (s, there, e) = of_map (λ s. Stable s) x (stable_states d) among in subst (IsState d m) e (of_states d s there)
 
-of_leaving : (d : Draft) (m : Mode) (x : Desc) → IsIn x (map (λ s. Leave s) (filter (λ s. not (is (out d) s)) (states d))) → IsState d m x
+of_leaving : (d : Draft) (m : Mode) (x : Desc) → IsIn x (map (λ s. Leave s) (filter (λ s. not (is (out d) s)) (stable_states d))) → IsState d m x
 of_leaving d m x among =
-    let (s, there, e) = of_map (λ s. Leave s) x (filter (λ s. not (is (out d) s)) (states d)) among in
-    subst (IsState d m) e (of_states d s (of_filter (λ s. not (is (out d) s)) s (states d) there).0)
+    let (s, there, e) = of_map (λ s. Leave s) x (filter (λ s. not (is (out d) s)) (stable_states d)) among in
+    subst (IsState d m) e (of_states d s (of_filter (λ s. not (is (out d) s)) s (stable_states d) there).0)
 
 -- in one of five lists
 in_five : (x : Desc) (a b c e f : List Desc) → IsIn x (a ++ b ++ c ++ e ++ f) → IsIn x a ⊎ (IsIn x b ⊎ (IsIn x c ⊎ (IsIn x e ⊎ IsIn x f)))
@@ -183,27 +183,27 @@ of_five x a b c e f (inr (inr (inr (inr h)))) = in_right x (a ++ b ++ c ++ e) f 
 
 -- in one of the parts of the list of states
 abbrev IsInPart : Draft → Mode → Desc → Type 0
-IsInPart d m x = IsIn x (map (λ s. Stable s) (states d)) ⊎ (IsIn x (map (λ t. Ask Load (out_state d) D t) (tags d m (out_state d) Load))
-    ⊎ (IsIn x (flat_map (store_states d m) (starts d)) ⊎ (IsIn x (map (λ s. Leave s) (filter (λ s. not (is (out d) s)) (states d)))
+IsInPart d m x = IsIn x (map (λ s. Stable s) (stable_states d)) ⊎ (IsIn x (map (λ t. Ask Load (out_state d) D t) (tags d m (out_state d) Load))
+    ⊎ (IsIn x (flat_map (store_states d m) (store_starts d)) ⊎ (IsIn x (map (λ s. Leave s) (filter (λ s. not (is (out d) s)) (stable_states d)))
     ⊎ IsIn x (Leave (out_state d) ∷ []))))
 
 -- a state of the list is one of the controller
 pub is_state : (d : Draft) (m : Mode) (s : Desc) → HasPerms d → is_among (descs d m) s ≡ true → IsState d m s
 is_state d m s perms h =
     let (x, there, same) = any_in (same_desc s) (descs d m) h in
-    subst (IsState d m) (sym (same_desc_is s x same)) (at x (in_five x (map (λ s. Stable s) (states d)) (map (λ t. Ask Load (out_state d) D t) (tags d m (out_state d) Load))
-    (flat_map (store_states d m) (starts d)) (map (λ s. Leave s) (filter (λ s. not (is (out d) s)) (states d))) (Leave (out_state d) ∷ []) there))
+    subst (IsState d m) (sym (same_desc_is s x same)) (at x (in_five x (map (λ s. Stable s) (stable_states d)) (map (λ t. Ask Load (out_state d) D t) (tags d m (out_state d) Load))
+    (flat_map (store_states d m) (store_starts d)) (map (λ s. Leave s) (filter (λ s. not (is (out d) s)) (stable_states d))) (Leave (out_state d) ∷ []) there))
   where
     at : (x : Desc) → IsInPart d m x → IsState d m x
     at x (inl a) = of_stable d m x a
-    at x (inr (inl b)) = of_each d m (out_state d) Load (λ t. Ask Load (out_state d) D t) x (λ t has. (out_is d perms, has)) b
+    at x (inr (inl b)) = of_each d m (out_state d) Load (λ t. Ask Load (out_state d) D t) x (λ t has. (out_is_out_state d perms, has)) b
     at x (inr (inr (inl c))) = of_stores d m x perms c
     at x (inr (inr (inr (inl e)))) = of_leaving d m x e
-    at x (inr (inr (inr (inr (inl e))))) = subst (IsState d m) e (out_below d (out_state d) (out_is d perms))
+    at x (inr (inr (inr (inr (inl e))))) = subst (IsState d m) e (out_below d (out_state d) (out_is_out_state d perms))
     at x (inr (inr (inr (inr (inr none))))) = absurd none
 
 in_stores : (d : Draft) (m : Mode) (s : ℕ) (x : Desc) → IsStart d s → IsIn x (store_states d m s) → IsInPart d m x
-in_stores d m s x start among = inr (inr (inl (in_flat (store_states d m) s x (starts d) (in_starts d s start) among)))
+in_stores d m s x start among = inr (inr (inl (in_flat (store_states d m) s x (store_starts d) (in_starts d s start) among)))
 
 in_load : (d : Draft) (m : Mode) (s : ℕ) (tag : Tag) → HasTag d m s Load tag → out_state d ≡ s → IsInPart d m (Ask Load s D tag)
 in_load d m s tag has e =
@@ -227,7 +227,7 @@ in_waiting d m s tag e has =
     (in_map (λ t. Ask Store s A t) tag (tags d m s Store) (in_tags d m s Store tag has))
 
 in_part : (d : Draft) (m : Mode) (s : Desc) → HasPerms d → IsState d m s → IsInPart d m s
-in_part d m (Stable s) perms h = inl (in_map (λ s. Stable s) s (states d) (in_states d s h))
+in_part d m (Stable s) perms h = inl (in_map (λ s. Stable s) s (stable_states d) (in_states d s h))
 in_part d m (Ask Load s D tag) perms h = in_load d m s tag h.1 (out_one d s h.0)
 in_part d m (Ask Store s Ad tag) perms h =
     in_stores d m s (Ask Store s Ad tag) h.0 (in_left (Ask Store s Ad tag) (first_states d m s) (waiting_states d m s) (in_first d m s tag h.1 h.2))
@@ -238,13 +238,13 @@ in_part d m (Ask Store s A tag) perms h =
 in_part d m (Leave s) perms h = at (is (out d) s) refl
   where
     at : (b : Bool) → is (out d) s ≡ b → IsInPart d m (Leave s)
-    at true e = inr (inr (inr (inr (inl (ap Leave (out_one d s (is_one (out d) s e)))))))
-    at false e = inr (inr (inr (inl (in_map (λ s. Leave s) s (filter (λ s. not (is (out d) s)) (states d))
-        (in_filter (λ s. not (is (out d) s)) s (states d) (ap not e) (in_states d s h))))))
+    at true e = inr (inr (inr (inr (inl (ap Leave (out_one d s (is_then_some (out d) s e)))))))
+    at false e = inr (inr (inr (inl (in_map (λ s. Leave s) s (filter (λ s. not (is (out d) s)) (stable_states d))
+        (in_filter (λ s. not (is (out d) s)) s (stable_states d) (ap not e) (in_states d s h))))))
 in_part d m _ perms h = absurd h
 
 -- and a state of the controller is in the list
 pub is_listed : (d : Draft) (m : Mode) (s : Desc) → HasPerms d → IsState d m s → is_among (descs d m) s ≡ true
 is_listed d m s perms h =
-    in_any (same_desc s) s (descs d m) (of_five s (map (λ s. Stable s) (states d)) (map (λ t. Ask Load (out_state d) D t) (tags d m (out_state d) Load))
-    (flat_map (store_states d m) (starts d)) (map (λ s. Leave s) (filter (λ s. not (is (out d) s)) (states d))) (Leave (out_state d) ∷ []) (in_part d m s perms h)) (same_desc_self s)
+    in_any (same_desc s) s (descs d m) (of_five s (map (λ s. Stable s) (stable_states d)) (map (λ t. Ask Load (out_state d) D t) (tags d m (out_state d) Load))
+    (flat_map (store_states d m) (store_starts d)) (map (λ s. Leave s) (filter (λ s. not (is (out d) s)) (stable_states d))) (Leave (out_state d) ∷ []) (in_part d m s perms h)) (same_desc_self s)

@@ -11,8 +11,8 @@ use Rattle.pg_table.specs.declared.cache.Desc.{Desc}
 use Rattle.pg_table.specs.declared.cache.Input.{Input}
 use Rattle.pg_table.specs.Descriptors.{descs}
 use Rattle.pg_table.specs.Choices.{Choice, choices}
-use Rattle.pg_table.specs.Generated.{inputs, chosen}
-use Rattle.pg_table.specs.Mixed.{IsMix}
+use Rattle.pg_table.specs.GeneratedStates.{inputs, choice_of_mode}
+use Rattle.pg_table.specs.MixedTables.{IsMix}
 use Rattle.pg_table.specs.Tables.{same_desc}
 use Rattle.pg_table.specs.Sound.{is_among}
 use Rattle.pg_table.proofs.Numbers.{are_apart, apart_distinct, among_at}
@@ -32,7 +32,7 @@ leads_among ss (Some c) = is_among ss c.next
 
 -- and each that is made in these states does
 abbrev all_lead : Draft → (Desc → Input → Mode) → List Desc → List Desc → Bool
-all_lead d pick ss xs = list_all (λ s. list_all (λ i. leads_among ss (chosen (pick s i) (choices d s i))) (inputs d)) xs
+all_lead d pick ss xs = list_all (λ s. list_all (λ i. leads_among ss (choice_of_mode (pick s i) (choices d s i))) (inputs d)) xs
 
 abbrev pub is_mix : Draft → (Desc → Input → Mode) → List Desc → Bool
 is_mix d pick ss = are_apart same_desc ss && are_among (descs d mode.Defer) ss && are_among ss (descs d mode.Stall)
@@ -44,10 +44,10 @@ among_all : (ss xs : List Desc) (s : Desc) → are_among ss xs ≡ true → is_a
 among_all ss xs s all h = let (n, get) = among_at xs s h in all_at (is_among ss) xs n s all get
 
 -- where something is chosen at an input, that is one of the inputs
-chosen_input : (d : Draft) (m : Mode) (s : Desc) (i : Input) (c : Choice) → IsWellFormed d → chosen m (choices d s i) ≡ Some c → IsIn i (inputs d)
+chosen_input : (d : Draft) (m : Mode) (s : Desc) (i : Input) (c : Choice) → IsWellFormed d → choice_of_mode m (choices d s i) ≡ Some c → IsIn i (inputs d)
 chosen_input d m s i c w e = at (choices d s i) refl e
   where
-    at : (cs : List Choice) → choices d s i ≡ cs → chosen m cs ≡ Some c → IsIn i (inputs d)
+    at : (cs : List Choice) → choices d s i ≡ cs → choice_of_mode m cs ≡ Some c → IsIn i (inputs d)
     at [] h e = absurd cc
     at (a ∷ cs) h e = choices_in d s i a cs w h
 
@@ -62,6 +62,6 @@ tested_mix d pick ss w h =
       onward = λ s i c among chose.
           let (n, get) = among_at ss s among in
           let input = chosen_input d (pick s i) s i c w chose in
-          let row = all_at (λ s. list_all (λ i. leads_among ss (chosen (pick s i) (choices d s i))) (inputs d)) ss n s onward get in
-          sym (ap (leads_among ss) chose) ∙ all_in (λ i. leads_among ss (chosen (pick s i) (choices d s i))) i (inputs d) row input;
+          let row = all_at (λ s. list_all (λ i. leads_among ss (choice_of_mode (pick s i) (choices d s i))) (inputs d)) ss n s onward get in
+          sym (ap (leads_among ss) chose) ∙ all_in (λ i. leads_among ss (choice_of_mode (pick s i) (choices d s i))) i (inputs d) row input;
     }

@@ -7,7 +7,7 @@ use Rattle.std.proofs.lemmas.Option.{same_Some}
 use Rattle.std.proofs.lemmas.Map.Keys.{IsDistinct-head, IsDistinct-tail}
 use Rattle.pg_shape.proofs.Searches.{not_both, any_get, any_at, position_get, position_none}
 use Rattle.pg_table.specs.declared.cache.Desc.{Desc}
-use Rattle.pg_table.specs.declared.home.DirDesc.{DirDesc}
+use Rattle.pg_table.specs.declared.directory.DirDesc.{DirDesc}
 use Rattle.pg_table.specs.Controllers.{is_among_by, number_by}
 use Rattle.pg_table.specs.Tables.{same_desc, number_of, same_dir_desc, dir_number_of}
 use Rattle.pg_table.specs.Sound.{is_among}

@@ -11,8 +11,8 @@ use Rattle.pg_table.specs.declared.cache.Desc.{Desc}
 use Rattle.pg_table.specs.declared.cache.Input.{Input}
 use Rattle.pg_table.specs.Controllers.{row_for}
 use Rattle.pg_table.specs.Choices.{Choice, choices}
-use Rattle.pg_table.specs.Generated.{inputs, chosen, GenRow}
-use Rattle.pg_table.specs.Mixed.{mixed_rows}
+use Rattle.pg_table.specs.GeneratedStates.{inputs, choice_of_mode, GenRow}
+use Rattle.pg_table.specs.MixedTables.{mixed_rows}
 use Rattle.pg_table.specs.Tables.{Row, same_input, same_desc, table_row}
 use Rattle.pg_table.specs.Sound.{rows_for}
 use Rattle.pg_table.proofs.Same.{input_same}
@@ -22,10 +22,10 @@ use Rattle.pg_table.proofs.InputsApart.{inputs_distinct}
 
 -- a state has for an input the row of its choice, and no other
 pub rows_for_input : (d : Draft) (pick : Desc → Input → Mode) (ss : List Desc) (s : Desc) (i : Input) → IsWellFormed d → IsShaped d
-    → rows_for i (map (table_row ss) (mixed_rows d pick s)) ≡ map (table_row ss) (row_for i (chosen (pick s i) (choices d s i)))
-rows_for_input d pick ss s i w sh = one_row same_input input_same same_desc ss i (λ i. chosen (pick s i) (choices d s i)) (inputs d) (inputs_distinct d) (λ c. at (choices d s i) refl c)
+    → rows_for i (map (table_row ss) (mixed_rows d pick s)) ≡ map (table_row ss) (row_for i (choice_of_mode (pick s i) (choices d s i)))
+rows_for_input d pick ss s i w sh = one_row same_input input_same same_desc ss i (λ i. choice_of_mode (pick s i) (choices d s i)) (inputs d) (inputs_distinct d) (λ c. at (choices d s i) refl c)
   where
-    at : (cs : List Choice) → choices d s i ≡ cs → (c : Choice) → chosen (pick s i) cs ≡ Some c → list_any (λ j. same_input j i) (inputs d) ≡ true
+    at : (cs : List Choice) → choices d s i ≡ cs → (c : Choice) → choice_of_mode (pick s i) cs ≡ Some c → list_any (λ j. same_input j i) (inputs d) ≡ true
     at [] e c h = absurd cc
     at (a ∷ cs) e c h = choices_input d s i a cs w sh e
 

@@ -7,17 +7,17 @@ use Rattle.pg_perm.specs.contracts.kinds.Event.{the_type as event_type}
 use Rattle.pg_perm.specs.contracts.kinds.ReqClass.{the_type as request_type}
 use Rattle.pg_perm.specs.contracts.kinds.Who.{the_type as who_type}
 use Rattle.pg_perm.specs.contracts.kinds.Left.{the_type as left_type}
-use Rattle.pg_shape.proofs.Bools.{and_both}
+use Rattle.pg_shape.proofs.Bools.{and_of_both}
 use Rattle.pg_table.specs.contracts.cache.Phase.{the_type as phase_type}
 use Rattle.pg_table.specs.contracts.cache.Tag.{the_type as tag_type}
 use Rattle.pg_table.specs.declared.cache.Desc.{Desc}
 use Rattle.pg_table.specs.declared.cache.Desc.TheVariants.{Stable, Ask, Leave}
 use Rattle.pg_table.specs.declared.cache.Input.{Input}
 use Rattle.pg_table.specs.declared.cache.Input.TheVariants as at
-use Rattle.pg_table.specs.declared.home.DirDesc.{DirDesc}
-use Rattle.pg_table.specs.declared.home.DirDesc.TheVariants.{State, Busy}
-use Rattle.pg_table.specs.declared.home.DirInput.{DirInput}
-use Rattle.pg_table.specs.declared.home.DirInput.TheVariants as met
+use Rattle.pg_table.specs.declared.directory.DirDesc.{DirDesc}
+use Rattle.pg_table.specs.declared.directory.DirDesc.TheVariants.{State, Busy}
+use Rattle.pg_table.specs.declared.directory.DirInput.{DirInput}
+use Rattle.pg_table.specs.declared.directory.DirInput.TheVariants as met
 use Rattle.pg_table.specs.Tables.{same_desc, same_input, same_dir_desc, same_dir_input}
 
 -- a test passes just where two are equal
@@ -99,8 +99,8 @@ same_dir_input_is met.Wb met.Wb h = refl
 same_dir_input_is _ _ h = absurd cc
 
 same_dir_input_self : (a : DirInput) → same_dir_input a a ≡ true
-same_dir_input_self (met.Ask a w) = and_both (sameb request_type a a) (sameb who_type w w) (true_same request_type a a refl) (true_same who_type w w refl)
-same_dir_input_self (met.Evict w l) = and_both (sameb who_type w w) (sameb left_type l l) (true_same who_type w w refl) (true_same left_type l l refl)
+same_dir_input_self (met.Ask a w) = and_of_both (sameb request_type a a) (sameb who_type w w) (true_same request_type a a refl) (true_same who_type w w refl)
+same_dir_input_self (met.Evict w l) = and_of_both (sameb who_type w w) (sameb left_type l l) (true_same who_type w w refl) (true_same left_type l l refl)
 same_dir_input_self (met.BusyAsk a) = true_same request_type a a refl
 same_dir_input_self _ = refl
 

@@ -19,19 +19,19 @@ use Rattle.pg_terms.specs.Terms.{is_out, is_shared, is_owner, is_read_perm, is_r
 use Rattle.pg_terms.specs.Due.{is_due}
 use Rattle.pg_terms.specs.Rows.{allows, may_keep}
 use Rattle.pg_shape.specs.Shaped.{HasPerms, IsShaped}
-use Rattle.pg_shape.proofs.Bools.{and_both}
+use Rattle.pg_shape.proofs.Bools.{and_of_both}
 use Rattle.pg_shape.proofs.Searches.{position_get, get_below, map_or_get}
 use Rattle.pg_shape.proofs.Cores.{at_cache, none_writes_not, read_writes_not}
-use Rattle.pg_standing.proofs.Facts.{is_first_of_class, kept, owner_reads}
+use Rattle.pg_directory.proofs.Facts.{is_first_of_class, keep_of-take_row, owner_reads}
 use Rattle.pg_table.specs.declared.cache.Desc.TheVariants.{Ask}
 use Rattle.pg_table.specs.declared.cache.Phase.TheVariants.{Ad, Ac}
 use Rattle.pg_table.specs.declared.cache.Tag.{Tag}
 use Rattle.pg_table.specs.declared.cache.Tag.TheVariants.{Plain, Kept, Gave, Gone}
-use Rattle.pg_table.specs.Descriptors.{may_share, may_give, after, finals, is_tag_of, store_phase}
+use Rattle.pg_table.specs.Descriptors.{may_share, may_give, end_under_tag, final_states, is_tag_of, store_phase}
 use Rattle.pg_table.specs.Choices.{is_later, tag_by}
 use Rattle.pg_table.proofs.Forwards.{due_class}
 use Rattle.pg_table.proofs.Lists.{IsIn, any_in, in_any}
-use Rattle.pg_table.proofs.Members.{IsStart, HasTag, IsState, out_is}
+use Rattle.pg_table.proofs.Members.{IsStart, HasTag, IsState, out_is_out_state}
 use Rattle.pg_table.proofs.Finals.{asking_ends}
 
 -- States in which a store asks
@@ -71,9 +71,9 @@ takes_to_start d s f t shape due row = let (class, of) = due_class d s f due in 
 
 -- Operations that have met no later forward
 
-plain : (d : Draft) (m : Mode) (s : ℕ) (event : Event) → (x : ℕ) × IsIn x (finals d s event) → HasTag d m s event Plain
+plain : (d : Draft) (m : Mode) (s : ℕ) (event : Event) → (x : ℕ) × IsIn x (final_states d s event) → HasTag d m s event Plain
 plain d mode.Stall s event ends = refl
-plain d mode.Defer s event ends = in_any (λ f. is_some (after d f Plain)) ends.0 (finals d s event) ends.1 refl
+plain d mode.Defer s event ends = in_any (λ f. is_some (end_under_tag d f Plain)) ends.0 (final_states d s event) ends.1 refl
 
 -- a store may end where it asks
 pub store_plain : (d : Draft) (m : Mode) (s : ℕ) → IsWellFormed d → IsShaped d → IsStart d s → HasTag d m s Store Plain
@@ -103,10 +103,10 @@ store_begins d m s well shape start = at (cache_is (λ c. is_owner c.role) d s) 
 
 -- a tag that a final state may have
 abbrev Bears : Draft → ℕ → Tag → Type 0
-Bears d x tag = is_some (after d x tag) ≡ true
+Bears d x tag = is_some (end_under_tag d x tag) ≡ true
 
 bears_gone : (d : Draft) (x : ℕ) → HasPerms d → Bears d x Gone
-bears_gone d x perms = ap is_some (out_is d perms)
+bears_gone d x perms = ap is_some (out_is_out_state d perms)
 
 -- where a share comes to it there is a shared state
 share_shares : (d : Draft) (x f : ℕ) → IsShaped d → has_class Share d f ≡ true → is_due d x f ≡ true → is_some (shared d) ≡ true
@@ -131,7 +131,7 @@ due_tagged d x f shape due = at (has_class Share d f) refl (has_class Keep d f) 
         bears_gave d x (or_left (may_share d x) (may_keep d x && option_map_or (may_share d) (keep_of d x) false) may) (share_shares d x f shape share due)
     at false share true keep =
         let (t, row) = shape.takes.due x f due in
-        bears_kept d x (may_take d x f (forward_of d Keep) (is_first_of_class d shape.forwards Keep f keep) due) (ap is_some (kept d shape.forwards f x t keep row))
+        bears_kept d x (may_take d x f (forward_of d Keep) (is_first_of_class d shape.forwards Keep f keep) due) (ap is_some (keep_of-take_row d shape.forwards f x t keep row))
     at false share false keep = bears_gone d x shape.perms
 
 -- and so does one that is due where a keep leads it
@@ -142,7 +142,7 @@ kept_tagged d x k f shape keeps leads due = at (has_class Share d f) refl (has_c
     at true share b =
         let may : may_share d k ≡ true = may_take d k f (forward_of d Share) (is_first_of_class d shape.forwards Share f share) due in
         let there : option_map_or (may_share d) (keep_of d x) false ≡ true = ap (λ (o : Option ℕ). option_map_or (may_share d) o false) leads ∙ may in
-        bears_gave d x (or_right (may_share d x) (may_keep d x && option_map_or (may_share d) (keep_of d x) false) (and_both (may_keep d x) _ keeps there))
+        bears_gave d x (or_right (may_share d x) (may_keep d x && option_map_or (may_share d) (keep_of d x) false) (and_of_both (may_keep d x) _ keeps there))
         (share_shares d k f shape share due)
     at false share true = bears_kept d x keeps (ap is_some leads)
     at false share false = bears_gone d x shape.perms
@@ -150,12 +150,12 @@ kept_tagged d x k f shape keeps leads due = at (has_class Share d f) refl (has_c
 -- a later forward that may come sets a tag that there is
 pub later_tagged : (d : Draft) (s : ℕ) (event : Event) (tag : Tag) (f : ℕ) → IsShaped d → is_later d s event tag f ≡ true → is_tag_of d s event (tag_by d f) ≡ true
 later_tagged d s event Plain f shape h =
-    let (x, there, due) = any_in (λ x. is_due d x f) (finals d s event) h in
-    in_any (λ x. is_some (after d x (tag_by d f))) x (finals d s event) there (due_tagged d x f shape due)
+    let (x, there, due) = any_in (λ x. is_due d x f) (final_states d s event) h in
+    in_any (λ x. is_some (end_under_tag d x (tag_by d f))) x (final_states d s event) there (due_tagged d x f shape due)
 later_tagged d s event Kept f shape h =
-    let (x, there, keeps) = any_in (λ x. may_keep d x && option_map_or (λ k. is_due d k f) (keep_of d x) false) (finals d s event) h in
+    let (x, there, keeps) = any_in (λ x. may_keep d x && option_map_or (λ k. is_due d k f) (keep_of d x) false) (final_states d s event) h in
     let (may, leads) = and_parts (may_keep d x) (option_map_or (λ k. is_due d k f) (keep_of d x) false) keeps in
     let (k, kept, due) = map_or_get (λ k. is_due d k f) (keep_of d x) leads in
-    in_any (λ x. is_some (after d x (tag_by d f))) x (finals d s event) there (kept_tagged d x k f shape may kept due)
+    in_any (λ x. is_some (end_under_tag d x (tag_by d f))) x (final_states d s event) there (kept_tagged d x k f shape may kept due)
 later_tagged d s event Gave f shape h = absurd cc
 later_tagged d s event Gone f shape h = absurd cc

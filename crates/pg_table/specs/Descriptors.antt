@@ -33,24 +33,24 @@ abbrev pub may_give : Draft → ℕ → Bool
 may_give d s = may_share d s || (may_keep d s && option_map_or (may_share d) (keep_of d s) false)
 
 -- where an operation ends with this final state, once the forwards that a tag tells of have come
-abbrev pub after : Draft → ℕ → Tag → Option ℕ
-after d f Plain = Some f
-after d f Kept = if may_keep d f then keep_of d f else None
-after d f Gave = if may_give d f then shared d else None
-after d f Gone = out d
+abbrev pub end_under_tag : Draft → ℕ → Tag → Option ℕ
+end_under_tag d f Plain = Some f
+end_under_tag d f Kept = if may_keep d f then keep_of d f else None
+end_under_tag d f Gave = if may_give d f then shared d else None
+end_under_tag d f Gone = out d
 
-abbrev pub finals_in : CoreForm → List ℕ
-finals_in (form.Hit next) = []
-finals_in (form.Ask request pairs) = map (λ p. p.fin) pairs
-finals_in (form.Leave request) = []
+abbrev pub final_states_in : CoreForm → List ℕ
+final_states_in (form.Hit next) = []
+final_states_in (form.Ask request pairs) = map (λ p. p.fin) pairs
+final_states_in (form.Leave request) = []
 
 -- the final states of a load or a store that began in this state
-abbrev pub finals : Draft → ℕ → Event → List ℕ
-finals d s event = option_map_or (λ l. finals_in l.form) (core_row d s event) []
+abbrev pub final_states : Draft → ℕ → Event → List ℕ
+final_states d s event = option_map_or (λ l. final_states_in l.form) (core_row d s event) []
 
 -- a tag tells of forwards that may come to an operation that began in this state
 abbrev pub is_tag_of : Draft → ℕ → Event → Tag → Bool
-is_tag_of d s event tag = list_any (λ f. is_some (after d f tag)) (finals d s event)
+is_tag_of d s event tag = list_any (λ f. is_some (end_under_tag d f tag)) (final_states d s event)
 
 -- the tags of an operation that began in this state, in their order; where forwards wait, no tag is set
 abbrev pub tags : Draft → Mode → ℕ → Event → List Tag
@@ -62,12 +62,12 @@ abbrev pub store_phase : Draft → ℕ → Phase
 store_phase d s = if cache_is (λ c. is_owner c.role) d s then Ac else Ad
 
 -- the states of the caches, as they are declared
-abbrev pub states : Draft → List ℕ
-states d = range_with_len 0 (length d.caches)
+abbrev pub stable_states : Draft → List ℕ
+stable_states d = range_with_len 0 (length d.caches)
 
 -- the states in which a store asks: out, shared, and the owners that may only read
-abbrev pub starts : Draft → List ℕ
-starts d = out_state d ∷ option_map_or (λ s. s ∷ []) (shared d) [] ++ filter (cache_is is_read_owner d) (states d)
+abbrev pub store_starts : Draft → List ℕ
+store_starts d = out_state d ∷ option_map_or (λ s. s ∷ []) (shared d) [] ++ filter (cache_is is_read_owner d) (stable_states d)
 
 -- a store in this state, in its first phase; one that waits for a count has no tag
 abbrev pub first_states : Draft → Mode → ℕ → List Desc
@@ -82,8 +82,8 @@ store_states d m s = first_states d m s ++ waiting_states d m s
 
 -- the states of the cache controller: the stable ones, those of a load, those of stores by where they began, and those of evicts
 abbrev pub descs : Draft → Mode → List Desc
-descs d m = map (λ s. Stable s) (states d)
+descs d m = map (λ s. Stable s) (stable_states d)
     ++ map (λ t. Ask Load (out_state d) D t) (tags d m (out_state d) Load)
-    ++ flat_map (store_states d m) (starts d)
-    ++ map (λ s. Leave s) (filter (λ s. not (is (out d) s)) (states d))
+    ++ flat_map (store_states d m) (store_starts d)
+    ++ map (λ s. Leave s) (filter (λ s. not (is (out d) s)) (stable_states d))
     ++ Leave (out_state d) ∷ []

@@ -1,12 +1,12 @@
 pub mod Controllers
 pub mod Descriptors
 pub mod Choices
-pub mod Generated
-pub mod Home
+pub mod GeneratedStates
+pub mod Directory
 pub mod Worked
 pub mod Tables
 pub mod Sound
 pub mod Stalls
-pub mod Mixed
+pub mod MixedTables
 pub mod DueInputs
 pub mod Pick

@@ -10,7 +10,7 @@ use Rattle.pg_table.specs.declared.cache.Input.{Input}
 use Rattle.pg_table.specs.Controllers.{rows_for_by, is_among_by, state_at}
 use Rattle.pg_table.specs.Descriptors.{descs}
 use Rattle.pg_table.specs.Choices.{Choice, choices}
-use Rattle.pg_table.specs.Tables.{Row, TableState, DirTableState, same_input, same_desc, home_table}
+use Rattle.pg_table.specs.Tables.{Row, TableState, DirTableState, same_input, same_desc, dir_table}
 
 -- a state is among these
 abbrev pub is_among : List Desc → Desc → Bool
@@ -48,4 +48,4 @@ pub record IsSoundCache (d : Draft) (t : List TableState) : Type 0 where
 -- the tables of both controllers are sound: that of the directory controller is the one that is generated
 pub record IsSound (d : Draft) (t : List TableState) (h : List DirTableState) : Type 0 where
   pub cache : IsSoundCache d t
-  pub home : h ≡ home_table d
+  pub home : h ≡ dir_table d

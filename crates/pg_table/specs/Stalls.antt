@@ -10,12 +10,12 @@ use Rattle.pg_table.specs.declared.cache.Input.{Input}
 use Rattle.pg_table.specs.declared.cache.Input.TheVariants as at
 use Rattle.pg_table.specs.declared.cache.Act.{Act}
 use Rattle.pg_table.specs.declared.cache.Act.TheVariants as act
-use Rattle.pg_table.specs.declared.home.DirDesc.{DirDesc}
-use Rattle.pg_table.specs.declared.home.DirDesc.TheVariants as dir
-use Rattle.pg_table.specs.declared.home.DirInput.{DirInput}
-use Rattle.pg_table.specs.declared.home.DirInput.TheVariants as met
-use Rattle.pg_table.specs.declared.home.DirAct.{DirAct}
-use Rattle.pg_table.specs.declared.home.DirAct.TheVariants as does
+use Rattle.pg_table.specs.declared.directory.DirDesc.{DirDesc}
+use Rattle.pg_table.specs.declared.directory.DirDesc.TheVariants as dir
+use Rattle.pg_table.specs.declared.directory.DirInput.{DirInput}
+use Rattle.pg_table.specs.declared.directory.DirInput.TheVariants as met
+use Rattle.pg_table.specs.declared.directory.DirAct.{DirAct}
+use Rattle.pg_table.specs.declared.directory.DirAct.TheVariants as does
 use Rattle.pg_table.specs.Choices.{is_later, is_earlier}
 
 -- Caches

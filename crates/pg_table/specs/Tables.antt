@@ -5,20 +5,20 @@ use Rattle.pg_perm.specs.declared.draft.Draft.{Draft}
 use Rattle.pg_table.specs.declared.cache.Desc.{Desc}
 use Rattle.pg_table.specs.declared.cache.Input.{Input}
 use Rattle.pg_table.specs.declared.cache.Act.{Act}
-use Rattle.pg_table.specs.declared.home.DirDesc.{DirDesc}
-use Rattle.pg_table.specs.declared.home.DirInput.{DirInput}
-use Rattle.pg_table.specs.declared.home.DirAct.{DirAct}
+use Rattle.pg_table.specs.declared.directory.DirDesc.{DirDesc}
+use Rattle.pg_table.specs.declared.directory.DirInput.{DirInput}
+use Rattle.pg_table.specs.declared.directory.DirAct.{DirAct}
 use Rattle.pg_table.specs.declared.table.ControllerRow.{ControllerRow}
 use Rattle.pg_table.specs.declared.table.ControllerState.{ControllerState}
 use Rattle.pg_table.specs.contracts.cache.DescPartialEq.TheImpl.{ghosts as of_desc}
 use Rattle.pg_table.specs.contracts.cache.InputPartialEq.TheImpl.{ghosts as of_input}
-use Rattle.pg_table.specs.contracts.home.DirDescPartialEq.TheImpl.{ghosts as of_dir_desc}
-use Rattle.pg_table.specs.contracts.home.DirInputPartialEq.TheImpl.{ghosts as of_dir_input}
+use Rattle.pg_table.specs.contracts.directory.DirDescPartialEq.TheImpl.{ghosts as of_dir_desc}
+use Rattle.pg_table.specs.contracts.directory.DirInputPartialEq.TheImpl.{ghosts as of_dir_input}
 use Rattle.pg_table.specs.Controllers.{has_input_by, find_row_by, number_by, table_row_by, table_state_by, table_by}
 use Rattle.pg_table.specs.Descriptors.{descs}
 use Rattle.pg_table.specs.Choices.{choices}
-use Rattle.pg_table.specs.Generated.{inputs, chosen, GenRow, GenState}
-use Rattle.pg_table.specs.Home.{HomeRow, HomeState, home_descs, home_inputs, home_choice}
+use Rattle.pg_table.specs.GeneratedStates.{inputs, choice_of_mode, GenRow, GenState}
+use Rattle.pg_table.specs.Directory.{DirGenRow, DirGenState, dir_descs, dir_inputs, dir_choice}
 
 -- Caches
 
@@ -53,7 +53,7 @@ table_state = table_state_by same_desc
 
 -- the generated table of a cache controller
 abbrev pub cache_table : Draft → Mode → List TableState
-cache_table d m = table_by same_desc (λ s i. chosen m (choices d s i)) (inputs d) (descs d m)
+cache_table d m = table_by same_desc (λ s i. choice_of_mode m (choices d s i)) (inputs d) (descs d m)
 
 -- The directory
 
@@ -78,15 +78,15 @@ same_dir_desc = of_dir_desc.eq
 abbrev pub dir_number_of : List DirDesc → DirDesc → ℕ
 dir_number_of = number_by same_dir_desc
 
-abbrev pub home_row : List DirDesc → HomeRow → DirRow
-home_row = table_row_by same_dir_desc
+abbrev pub dir_table_row : List DirDesc → DirGenRow → DirRow
+dir_table_row = table_row_by same_dir_desc
 
-abbrev pub home_state : List DirDesc → HomeState → DirTableState
-home_state = table_state_by same_dir_desc
+abbrev pub dir_table_state : List DirDesc → DirGenState → DirTableState
+dir_table_state = table_state_by same_dir_desc
 
 -- the generated table of the directory controller
-abbrev pub home_table : Draft → List DirTableState
-home_table d = table_by same_dir_desc (home_choice d) home_inputs (home_descs d)
+abbrev pub dir_table : Draft → List DirTableState
+dir_table d = table_by same_dir_desc (dir_choice d) dir_inputs (dir_descs d)
 
 -- Tables of both controllers
 
@@ -98,4 +98,4 @@ pub record Parts : Type 0 where
 
 -- the generated tables of a protocol
 abbrev pub generated_tables : Draft → Mode → Parts
-generated_tables d m = record { protocol = d; mode = m; cache = cache_table d m; home = home_table d }
+generated_tables d m = record { protocol = d; mode = m; cache = cache_table d m; home = dir_table d }

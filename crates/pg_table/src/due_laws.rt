@@ -6,7 +6,7 @@ ghost use Rattle.pg_perm.specs.declared.kinds.Mode.TheVariants as mode;
 ghost use Rattle.pg_perm.specs.declared.draft.Draft.{Draft};
 ghost use Rattle.pg_perm.specs.declared.draft.ReplyName.TheVariants as reply;
 ghost use Rattle.pg_perm.specs.Drafts.{IsWellFormed};
-ghost use Rattle.pg_terms.specs.Rows.{final};
+ghost use Rattle.pg_terms.specs.Rows.{final_state};
 ghost use Rattle.pg_shape.specs.Shaped.{IsShaped};
 ghost use Rattle.pg_table.specs.declared.cache.Desc.{Desc};
 ghost use Rattle.pg_table.specs.declared.cache.Desc.TheVariants.{Ask};
@@ -35,7 +35,7 @@ pub fn inputs_that_may_come()
 /// exactly the replies for which the row has a final state, and where it waits for acknowledgements, the last of them may come.
 pub fn stores_may_end()
     ensures data { (d : Draft) (s r : ℕ) (tag : Tag) → IsWellFormed d → IsShaped d → is_among (descs d mode.Defer) (Ask Store s Ad tag) ≡ true
-        → is_due_input d (Ask Store s Ad tag) (at.DataAll r) ≡ is_some (final d s Store (reply.Reply r)) }
+        → is_due_input d (Ask Store s Ad tag) (at.DataAll r) ≡ is_some (final_state d s Store (reply.Reply r)) }
     ensures acks { (d : Draft) (s : ℕ) (tag : Tag) → IsWellFormed d → IsShaped d → is_among (descs d mode.Defer) (Ask Store s A tag) ≡ true
         → is_due_input d (Ask Store s A tag) at.AckLast ≡ true }
 {}

@@ -4,9 +4,9 @@
 #![tactic(auto)]
 
 mod cache;
+mod directory;
+mod directory_laws;
 mod due_laws;
-mod home;
-mod home_laws;
 mod laws;
 mod table;
 mod table_laws;
@@ -16,12 +16,12 @@ mod tests;
 mod worked;
 
 pub use cache::{Act, Acts, Desc, Input, Phase, Row, Table, TableState, Tag};
-pub use due_laws::{inputs_that_may_come, sound_tables_pick, stores_may_end};
-pub use home::{DirAct, DirActs, DirDesc, DirInput, DirRow, DirTable, DirTableState};
-pub use home_laws::{
-    busy_states_have_rows, home_cases_have_rows, home_rows_lead_to_states, home_stalls_when_busy,
-    home_table_answers,
+pub use directory::{DirAct, DirActs, DirDesc, DirInput, DirRow, DirTable, DirTableState};
+pub use directory_laws::{
+    busy_states_have_rows, directory_cases_have_rows, directory_rows_lead_to_states,
+    directory_stalls_when_busy, directory_table_answers,
 };
+pub use due_laws::{inputs_that_may_come, sound_tables_pick, stores_may_end};
 pub use laws::{
     generated_tables_are_sound, inputs_are_listed_once, later_forwards_stall,
     mixed_tables_are_sound, rows_are_for_one_input, rows_lead_to_states, sound_tables_answer,
@@ -29,7 +29,7 @@ pub use laws::{
 };
 pub use table::{ControllerRow, ControllerState, ControllerTable};
 pub use table_laws::{
-    deferring_tables_never_stall, home_tables_have_one_row, home_tables_stall_when_busy,
+    deferring_tables_never_stall, directory_tables_have_one_row, directory_tables_stall_when_busy,
     stalling_tables_stall_later_forwards, tags_tell_the_state,
 };
 pub use tables::Tables;

@@ -3,7 +3,7 @@ ghost use Rattle.std.specs.Prelude.{◌≡◌, IfOk};
 ghost use Rattle.pg_table.specs.Sound.{IsSound};
 
 use crate::cache::Table;
-use crate::home::DirTable;
+use crate::directory::DirTable;
 use pg_perm::Mode;
 use pg_shape::Protocol;
 use std::alloc::AllocError;

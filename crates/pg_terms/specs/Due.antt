@@ -50,7 +50,7 @@ is_to_owner d f = has_class Share d f || has_class Keep d f || has_class Drop d 
 abbrev pub is_passed_to : Draft → ℕ → ℕ → RowLine → Bool
 is_passed_to d s f r = is (forward_in r.form) f && lists d r.dir s
 
--- a cache in this state may get this forward: the shared state an inv, and an owner a share, keep or drop that a row line passes on to it
+-- a cache in this state may get this forward: the shared state an invalidation, and an owner a share, keep or drop that a row line passes on to it
 abbrev pub is_due : Draft → ℕ → ℕ → Bool
 is_due d s f = (is (shared d) s && is (forward_of d Inv) f)
     || (cache_is (λ c. is_owner c.role) d s && is_to_owner d f && list_any (is_passed_to d s f) d.rows)
@@ -101,21 +101,21 @@ is_row_from d class w (form.Evict who left) = false
 abbrev pub is_answer : Draft → ℕ → ℕ → ℕ → TakeLine → Bool
 is_answer d n f m t = (t.forward == f) && is t.reply m && lists d n t.state
 
--- the requester may get this reply where a directory state has this action
-abbrev pub brings : Draft → ℕ → Action → ℕ → Bool
-brings d n (action.Reply m) reply = m == reply
-brings d n (action.Forward f) reply = list_any (is_answer d n f reply) d.takes
-brings d n action.Count reply = false
+-- the requestor may get this reply where a directory state has this action
+abbrev pub brings_reply : Draft → ℕ → Action → ℕ → Bool
+brings_reply d n (action.Reply m) reply = m == reply
+brings_reply d n (action.Forward f) reply = list_any (is_answer d n f reply) d.takes
+brings_reply d n action.Count reply = false
 
--- the requester may get this reply where a row line of a directory state has this form
-abbrev pub row_brings : Draft → ℕ → RowForm → ℕ → Bool
-row_brings d n (form.Ask request who action) reply = brings d n action reply
-row_brings d n (form.Evict who left) reply = false
+-- the requestor may get this reply where a row line of a directory state has this form
+abbrev pub row_brings_reply : Draft → ℕ → RowForm → ℕ → Bool
+row_brings_reply d n (form.Ask request who action) reply = brings_reply d n action reply
+row_brings_reply d n (form.Evict who left) reply = false
 
 -- a reply that a load may get
 abbrev pub is_load_reply : Draft → ℕ → Bool
-is_load_reply d reply = list_any (λ r. is_row_for d Read r.form && row_brings d r.dir r.form reply) d.rows
+is_load_reply d reply = list_any (λ r. is_row_for d Read r.form && row_brings_reply d r.dir r.form reply) d.rows
 
 -- a reply that a store may get from a sender that is other, a sharer or the owner
 abbrev pub is_store_reply : Draft → Who → ℕ → Bool
-is_store_reply d who reply = list_any (λ r. is_row_from d Write who r.form && row_brings d r.dir r.form reply) d.rows
+is_store_reply d who reply = list_any (λ r. is_row_from d Write who r.form && row_brings_reply d r.dir r.form reply) d.rows

@@ -35,8 +35,8 @@ final_under name (Ask request pairs) = option_map (λ p. p.fin) (pair_under name
 final_under name (Leave request) = None
 
 -- the state in which a core ends that asked in this state and gets this reply
-abbrev pub final : Draft → ℕ → Event → ReplyName → Option ℕ
-final d x event name = option_and_then (λ c. final_under name c.form) (core_row d x event)
+abbrev pub final_state : Draft → ℕ → Event → ReplyName → Option ℕ
+final_state d x event name = option_and_then (λ c. final_under name c.form) (core_row d x event)
 
 -- the state that a store in state s leads to where it is a hit
 abbrev pub store_next : ℕ → Event → CoreForm → Option ℕ

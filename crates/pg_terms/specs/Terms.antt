@@ -147,8 +147,8 @@ has_class class d f = option_map_or (λ m. is_forward_of class m.class) (slice_g
 -- Directory states
 
 -- the cache states that a directory state lists
-abbrev pub listed : Draft → ℕ → List ℕ
-listed d n = option_map_or (λ l. l.beside) (slice_get d.dirs n) []
+abbrev pub listed_states : Draft → ℕ → List ℕ
+listed_states d n = option_map_or (λ l. l.beside) (slice_get d.dirs n) []
 
 -- a list of states has this one
 abbrev pub lists_state : List ℕ → ℕ → Bool
@@ -156,7 +156,7 @@ lists_state states s = list_any (λ x. x == s) states
 
 -- a directory state lists a cache state
 abbrev pub lists : Draft → ℕ → ℕ → Bool
-lists d n s = lists_state (listed d n) s
+lists d n s = lists_state (listed_states d n) s
 
 -- Rows: of the lines of a case the first
 

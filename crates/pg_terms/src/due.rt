@@ -194,8 +194,8 @@ fn is_answered(draft: &Draft, dir: u8, forward: u8, reply: u8) -> bool
         .any(|take| is_answer(draft, dir, forward, reply, take))
 }
 
-fn brings(draft: &Draft, dir: u8, form: RowForm, reply: u8) -> bool
-    ensures { result ≡ due.row_brings draft.now dir form reply }
+fn row_brings_reply(draft: &Draft, dir: u8, form: RowForm, reply: u8) -> bool
+    ensures { result ≡ due.row_brings_reply draft.now dir form reply }
 {
     let RowForm::Ask { action, .. } = form else {
         return false;
@@ -212,7 +212,8 @@ pub fn is_load_reply(draft: &Draft, reply: u8) -> bool
     ensures { result ≡ due.is_load_reply draft.now reply }
 {
     draft.rows.as_slice().iter().any(|row| {
-        is_row_for(draft, ReqClass::Read, row.form) && brings(draft, row.dir, row.form, reply)
+        is_row_for(draft, ReqClass::Read, row.form)
+            && row_brings_reply(draft, row.dir, row.form, reply)
     })
 }
 
@@ -222,6 +223,6 @@ pub fn is_store_reply(draft: &Draft, sender: Who, reply: u8) -> bool
 {
     draft.rows.as_slice().iter().any(|row| {
         is_row_from(draft, ReqClass::Write, sender, row.form)
-            && brings(draft, row.dir, row.form, reply)
+            && row_brings_reply(draft, row.dir, row.form, reply)
     })
 }

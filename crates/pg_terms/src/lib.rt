@@ -22,6 +22,6 @@ pub use rows::{
 pub use terms::{
     core_row, dir_row, forward_of, has_class, is, is_case, is_clean_state, is_forward_of, is_other,
     is_out, is_owner, is_owner_state, is_read_owner, is_read_owner_state, is_request_of, is_shared,
-    is_write_owner, is_write_owner_state, keep_of, listed, lists, lists_state, out, perm_of,
+    is_write_owner, is_write_owner_state, keep_of, listed_states, lists, lists_state, out, perm_of,
     request_of, shared, take_row,
 };

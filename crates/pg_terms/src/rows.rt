@@ -48,7 +48,7 @@ pub fn final_under(name: ReplyName, form: &CoreForm) -> Option<u8>
 
 /// The state in which a core ends that asked in this state and gets this reply.
 pub fn final_state(draft: &Draft, state: u8, event: Event, name: ReplyName) -> Option<u8>
-    ensures { result ≡ says.final draft.now state event name }
+    ensures { result ≡ says.final_state draft.now state event name }
 {
     let line = core_row(draft, state, event)?;
     final_under(name, &line.form)

@@ -161,8 +161,8 @@ pub fn has_class(class: FwdClass, draft: &Draft, forward: u8) -> bool
 }
 
 /// The cache states that a directory state lists.
-pub fn listed(draft: &Draft, dir: u8) -> &[u8]
-    ensures { result.now ≡ term.listed draft.now dir }
+pub fn listed_states(draft: &Draft, dir: u8) -> &[u8]
+    ensures { result.now ≡ term.listed_states draft.now dir }
 {
     match draft.dirs.get(usize::from(dir)) {
         Some(line) => line.beside.as_slice(),
@@ -180,7 +180,7 @@ pub fn lists_state(states: &[u8], state: u8) -> bool
 pub fn lists(draft: &Draft, dir: u8, state: u8) -> bool
     ensures { result ≡ term.lists draft.now dir state }
 {
-    lists_state(listed(draft, dir), state)
+    lists_state(listed_states(draft, dir), state)
 }
 
 pub fn core_row<'a>(draft: &'a Draft, state: u8, event: Event) -> Option<&'a CoreLine>

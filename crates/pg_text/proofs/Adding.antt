@@ -29,8 +29,8 @@ use Rattle.pg_forms.specs.Forms.{spelling, shape_words}
 use Rattle.pg_forms.specs.Pairs.{words_in}
 use Rattle.pg_forms.specs.Kinds.{kind_of, is_protocol, is_end}
 use Rattle.pg_drafting.specs.Numbering.{put_dir, put_core, put_take, put_row}
-use Rattle.pg_text.specs.Printing.{numbered, pair_words, core_shape, cache_line_of, dir_line_of, message_line_of, core_line_of, take_line_of, row_line_of}
-use Rattle.pg_text.proofs.Parts.{Known}
+use Rattle.pg_text.specs.Printing.{numbered_elements, pair_words, core_shape, cache_line_of, dir_line_of, message_line_of, core_line_of, take_line_of, row_line_of}
+use Rattle.pg_text.proofs.Parts.{WellFormedParts}
 use Rattle.pg_text.proofs.NumbersAgain.{KnowsCaches, KnowsDirs, KnowsMessages, core_again, states_again, take_again, row_again}
 use Rattle.pg_text.proofs.WellNamed.{dir_line_named, message_line_named, core_line_named, take_line_named, row_line_named}
 use Rattle.pg_text.proofs.ReadAgain.{AreAdded}
@@ -68,28 +68,28 @@ before_distinct name (y ∷ ys) x rest h =
 
 -- what numbering keeps
 pub map_numbered : {A B : Type 0} (num : ℕ → A → A) (f : A → B) (from : ℕ) (xs : List A) → ((n : ℕ) (x : A) → f (num n x) ≡ f x)
-    → map f (numbered num from xs) ≡ map f xs
+    → map f (numbered_elements num from xs) ≡ map f xs
 map_numbered num f from [] same = refl
 map_numbered {B = B} num f from (x ∷ xs) same =
-    ap (λ (y : B). y ∷ map f (numbered num (from + 1) xs)) (same from x) ∙ ap (λ (ys : List B). f x ∷ ys) (map_numbered num f (from + 1) xs same)
+    ap (λ (y : B). y ∷ map f (numbered_elements num (from + 1) xs)) (same from x) ∙ ap (λ (ys : List B). f x ∷ ys) (map_numbered num f (from + 1) xs same)
 
 -- numbering keeps how many there are
-pub length_numbered : {A : Type 0} (num : ℕ → A → A) (from : ℕ) (xs : List A) → length (numbered num from xs) ≡ length xs
+pub length_numbered : {A : Type 0} (num : ℕ → A → A) (from : ℕ) (xs : List A) → length (numbered_elements num from xs) ≡ length xs
 length_numbered num from [] = refl
 length_numbered num from (x ∷ xs) = omega (arith, length_numbered num (from + 1) xs)
 
--- a name is new behind others among distinct names
+-- a name is new after others among distinct names
 new_name : {A : Type 0} (num : ℕ → A → A) (name : A → List ℕ) (from : ℕ) (xs front : List A) (x : A) (rest : List A)
     → ((n : ℕ) (y : A) → name (num n y) ≡ name y) → xs ≡ front ++ x ∷ rest → are_distinct (map name xs) ≡ true
-    → is_some (number_of (map name (numbered num from front)) (name x)) ≡ false
+    → is_some (number_of (map name (numbered_elements num from front)) (name x)) ≡ false
 new_name {A} num name from xs front x rest same split distinct =
     ap (λ names. is_some (number_of names (name x))) (map_numbered num name from front same)
     ∙ is_some-number_of (map name front) (name x)
     ∙ before_distinct name front x rest (ap (λ (ys : List A). are_distinct (map name ys)) (sym split) ∙ distinct)
 
--- there is room for an element behind others of as many as there may be
+-- there is room for an element after others of as many as there may be
 room_left : {A : Type 0} (num : ℕ → A → A) (from : ℕ) (xs front : List A) (x : A) (rest : List A) (other most now : ℕ) → xs ≡ front ++ x ∷ rest
-    → length xs + other ≤ most → now ≡ length (numbered num from front) + other → nat_le most now ≡ false
+    → length xs + other ≤ most → now ≡ length (numbered_elements num from front) + other → nat_le most now ≡ false
 room_left num from xs front x rest other most now split few is_now =
     lt-leb most now (omega (arith, few, is_now, length_numbered num from front, ap length split, length-append front (x ∷ rest)))
 
@@ -113,25 +113,25 @@ abbrev pub row_at : ℕ → RowLine → RowLine
 row_at n r = record r { line = n }
 
 -- the drafts of a text that starts with the protocol line of a draft
-abbrev pub made : Draft → List CacheLine → List DirLine → List MsgLine → List CoreLine → List TakeLine → List RowLine → Draft
-made d cs ss ms ks ts rs =
+abbrev pub draft_of_parts : Draft → List CacheLine → List DirLine → List MsgLine → List CoreLine → List TakeLine → List RowLine → Draft
+draft_of_parts d cs ss ms ks ts rs =
     record { line = 1; name = d.name; caches = cs; dirs = ss; messages = ms; cores = ks; takes = ts; rows = rs }
 
 -- the drafts know what was numbered
-knows_caches : (d : Draft) (from : ℕ) (ss : List DirLine) (ms : List MsgLine) (ks : List CoreLine) (ts : List TakeLine) (rs : List RowLine) → Known d
-    → KnowsCaches (made d (numbered cache_at from d.caches) ss ms ks ts rs) d
+knows_caches : (d : Draft) (from : ℕ) (ss : List DirLine) (ms : List MsgLine) (ks : List CoreLine) (ts : List TakeLine) (rs : List RowLine) → WellFormedParts d
+    → KnowsCaches (draft_of_parts d (numbered_elements cache_at from d.caches) ss ms ks ts rs) d
 knows_caches d from ss ms ks ts rs k =
     record { same = map_numbered cache_at (λ (c : CacheLine). c.name) from d.caches (λ n c. refl); distinct = k.free.caches }
 
 -- likewise of directory states
-knows_dirs : (d : Draft) (from : ℕ) (cs : List CacheLine) (ms : List MsgLine) (ks : List CoreLine) (ts : List TakeLine) (rs : List RowLine) → Known d
-    → KnowsDirs (made d cs (numbered dir_at from d.dirs) ms ks ts rs) d
+knows_dirs : (d : Draft) (from : ℕ) (cs : List CacheLine) (ms : List MsgLine) (ks : List CoreLine) (ts : List TakeLine) (rs : List RowLine) → WellFormedParts d
+    → KnowsDirs (draft_of_parts d cs (numbered_elements dir_at from d.dirs) ms ks ts rs) d
 knows_dirs d from cs ms ks ts rs k =
     record { same = map_numbered dir_at (λ (s : DirLine). s.name) from d.dirs (λ n s. refl); distinct = k.free.dirs }
 
 -- likewise of messages
-knows_messages : (d : Draft) (from : ℕ) (cs : List CacheLine) (ss : List DirLine) (ks : List CoreLine) (ts : List TakeLine) (rs : List RowLine) → Known d
-    → KnowsMessages (made d cs ss (numbered message_at from d.messages) ks ts rs) d
+knows_messages : (d : Draft) (from : ℕ) (cs : List CacheLine) (ss : List DirLine) (ks : List CoreLine) (ts : List TakeLine) (rs : List RowLine) → WellFormedParts d
+    → KnowsMessages (draft_of_parts d cs ss (numbered_elements message_at from d.messages) ks ts rs) d
 knows_messages d from cs ss ks ts rs k =
     record {
       same = map_numbered message_at (λ (m : MsgLine). m.name) from d.messages (λ n m. refl);
@@ -149,8 +149,8 @@ short_cache c = at c.clean
     at false = omega arith
 
 -- the cache lines
-pub caches_added : (d : Draft) (from : ℕ) → Known d
-    → AreAdded (λ cs. made d cs [] [] [] [] []) cache_line_of cache_at from d.caches
+pub caches_added : (d : Draft) (from : ℕ) → WellFormedParts d
+    → AreAdded (λ cs. draft_of_parts d cs [] [] [] [] []) cache_line_of cache_at from d.caches
 caches_added d from k front x rest n split = (
   record {
     named = named_inside is_state_name (λ (c : CacheLine). c.name) d.caches front x rest split k.names.caches;
@@ -164,13 +164,13 @@ caches_added d from k front x rest n split = (
 )
 
 -- the dir lines
-pub dirs_added : (d : Draft) (first from : ℕ) → Known d
-    → AreAdded (λ ss. made d (numbered cache_at first d.caches) ss [] [] [] []) (dir_line_of d) dir_at from d.dirs
+pub dirs_added : (d : Draft) (first from : ℕ) → WellFormedParts d
+    → AreAdded (λ ss. draft_of_parts d (numbered_elements cache_at first d.caches) ss [] [] [] []) (dir_line_of d) dir_at from d.dirs
 dirs_added d first from k front x rest n split =
-    let e : Draft = made d (numbered cache_at first d.caches) (numbered dir_at from front) [] [] [] [] in
+    let e : Draft = draft_of_parts d (numbered_elements cache_at first d.caches) (numbered_elements dir_at from front) [] [] [] [] in
     let there = inside (λ (s : DirLine). list_all (has_cache d) s.beside) d.dirs front x rest split k.numbers.beside in
     let few = leb-true (length x.beside) 77 (inside (λ (s : DirLine). nat_le (length s.beside) 77) d.dirs front x rest split k.limits.beside) in
-    let states = states_again e d x.beside (knows_caches d first (numbered dir_at from front) [] [] [] [] k) there in (
+    let states = states_again e d x.beside (knows_caches d first (numbered_elements dir_at from front) [] [] [] [] k) there in (
       record {
         named = dir_line_named d x k.names (named_inside is_state_name (λ (s : DirLine). s.name) d.dirs front x rest split k.names.dirs) there;
         short = omega (arith, few, length-map x.beside (cache_name d));
@@ -201,8 +201,8 @@ message_kind m = at m.class
     at class.Reply = (refl, refl)
 
 -- the request, forward and reply lines
-pub messages_added : (d : Draft) (from : ℕ) (cs : List CacheLine) (ss : List DirLine) → Known d
-    → AreAdded (λ ms. made d cs ss ms [] [] []) message_line_of message_at from d.messages
+pub messages_added : (d : Draft) (from : ℕ) (cs : List CacheLine) (ss : List DirLine) → WellFormedParts d
+    → AreAdded (λ ms. draft_of_parts d cs ss ms [] [] []) message_line_of message_at from d.messages
 messages_added d from cs ss k front x rest n split =
     let free_of : (list_any (bytes_eq x.name) taken_names) ≡ false =
     not-true _ (named_inside (λ m. not (list_any (bytes_eq m) taken_names)) (λ (m : MsgLine). m.name) d.messages front x rest split k.free.free) in (
@@ -230,14 +230,14 @@ short_shape d (form.Ask request pairs) few = omega (arith, few, length_words_in 
 short_shape d (form.Leave request) few = omega arith
 
 -- the core lines
-pub cores_added : (d : Draft) (first second third from : ℕ) → Known d
-    → AreAdded (λ ks. made d (numbered cache_at first d.caches) (numbered dir_at second d.dirs) (numbered message_at third d.messages) ks [] []) (core_line_of d) core_at from d.cores
+pub cores_added : (d : Draft) (first second third from : ℕ) → WellFormedParts d
+    → AreAdded (λ ks. draft_of_parts d (numbered_elements cache_at first d.caches) (numbered_elements dir_at second d.dirs) (numbered_elements message_at third d.messages) ks [] []) (core_line_of d) core_at from d.cores
 cores_added d first second third from k front x rest n split =
-    let cs : List CacheLine = numbered cache_at first d.caches in
-    let ss : List DirLine = numbered dir_at second d.dirs in
-    let ms : List MsgLine = numbered message_at third d.messages in
-    let ks : List CoreLine = numbered core_at from front in
-    let e : Draft = made d cs ss ms ks [] [] in
+    let cs : List CacheLine = numbered_elements cache_at first d.caches in
+    let ss : List DirLine = numbered_elements dir_at second d.dirs in
+    let ms : List MsgLine = numbered_elements message_at third d.messages in
+    let ks : List CoreLine = numbered_elements core_at from front in
+    let e : Draft = draft_of_parts d cs ss ms ks [] [] in
     let there = inside (has_core d) d.cores front x rest split k.numbers.cores in
     let few = leb-true (pair_count x.form) 38 (inside (λ (c : CoreLine). nat_le (pair_count c.form) 38) d.cores front x rest split k.limits.pairs) in
     let core = core_again e d n x (knows_caches d first ss ms ks [] [] k) (knows_messages d third cs ss ks [] [] k) there in (
@@ -261,15 +261,15 @@ short_take d t = at t.reply
     at (Some m) = omega arith
 
 -- the take lines
-pub takes_added : (d : Draft) (first second third fourth from : ℕ) → Known d
-    → AreAdded (λ ts. made d (numbered cache_at first d.caches) (numbered dir_at second d.dirs) (numbered message_at third d.messages) (numbered core_at fourth d.cores) ts []) (take_line_of d) take_at from d.takes
+pub takes_added : (d : Draft) (first second third fourth from : ℕ) → WellFormedParts d
+    → AreAdded (λ ts. draft_of_parts d (numbered_elements cache_at first d.caches) (numbered_elements dir_at second d.dirs) (numbered_elements message_at third d.messages) (numbered_elements core_at fourth d.cores) ts []) (take_line_of d) take_at from d.takes
 takes_added d first second third fourth from k front x rest n split =
-    let cs : List CacheLine = numbered cache_at first d.caches in
-    let ss : List DirLine = numbered dir_at second d.dirs in
-    let ms : List MsgLine = numbered message_at third d.messages in
-    let ks : List CoreLine = numbered core_at fourth d.cores in
-    let ts : List TakeLine = numbered take_at from front in
-    let e : Draft = made d cs ss ms ks ts [] in
+    let cs : List CacheLine = numbered_elements cache_at first d.caches in
+    let ss : List DirLine = numbered_elements dir_at second d.dirs in
+    let ms : List MsgLine = numbered_elements message_at third d.messages in
+    let ks : List CoreLine = numbered_elements core_at fourth d.cores in
+    let ts : List TakeLine = numbered_elements take_at from front in
+    let e : Draft = draft_of_parts d cs ss ms ks ts [] in
     let there = inside (has_take d) d.takes front x rest split k.numbers.takes in
     let take = take_again e d n x (knows_caches d first ss ms ks ts [] k) (knows_messages d third cs ss ks ts [] k) there in (
       record {
@@ -292,16 +292,16 @@ short_row d r = at r.form
     at (rows.Evict who left) = omega arith
 
 -- the row lines
-pub rows_added : (d : Draft) (first second third fourth fifth from : ℕ) → Known d
-    → AreAdded (λ rs. made d (numbered cache_at first d.caches) (numbered dir_at second d.dirs) (numbered message_at third d.messages) (numbered core_at fourth d.cores) (numbered take_at fifth d.takes) rs) (row_line_of d) row_at from d.rows
+pub rows_added : (d : Draft) (first second third fourth fifth from : ℕ) → WellFormedParts d
+    → AreAdded (λ rs. draft_of_parts d (numbered_elements cache_at first d.caches) (numbered_elements dir_at second d.dirs) (numbered_elements message_at third d.messages) (numbered_elements core_at fourth d.cores) (numbered_elements take_at fifth d.takes) rs) (row_line_of d) row_at from d.rows
 rows_added d first second third fourth fifth from k front x rest n split =
-    let cs : List CacheLine = numbered cache_at first d.caches in
-    let ss : List DirLine = numbered dir_at second d.dirs in
-    let ms : List MsgLine = numbered message_at third d.messages in
-    let ks : List CoreLine = numbered core_at fourth d.cores in
-    let ts : List TakeLine = numbered take_at fifth d.takes in
-    let rs : List RowLine = numbered row_at from front in
-    let e : Draft = made d cs ss ms ks ts rs in
+    let cs : List CacheLine = numbered_elements cache_at first d.caches in
+    let ss : List DirLine = numbered_elements dir_at second d.dirs in
+    let ms : List MsgLine = numbered_elements message_at third d.messages in
+    let ks : List CoreLine = numbered_elements core_at fourth d.cores in
+    let ts : List TakeLine = numbered_elements take_at fifth d.takes in
+    let rs : List RowLine = numbered_elements row_at from front in
+    let e : Draft = draft_of_parts d cs ss ms ks ts rs in
     let there = inside (has_row d) d.rows front x rest split k.numbers.rows in
     let row = row_again e d n x (knows_dirs d second cs ms ks ts rs k) (knows_messages d third cs ss ks ts rs k) there in (
       record {

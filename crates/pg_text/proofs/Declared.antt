@@ -37,7 +37,7 @@ use Rattle.pg_forms.specs.declared.line.RowShape.TheVariants as row
 use Rattle.pg_forms.specs.Forms.{IsShapeOf, IsRowShape}
 use Rattle.pg_drafting.specs.Numbering.{cache_number, dir_number, message_number, reply_name, pair_of, pairs_of, core_form, core_of, states_of}
 use Rattle.pg_drafting.specs.Numbering.{take_reply, take_of, action_by_class, action_of, row_form, row_of}
-use Rattle.pg_forms.proofs.Options.{then_some, told, mapped}
+use Rattle.pg_forms.proofs.Options.{then_some, word_test_some, option_map-some}
 
 -- a number of a cache state is that of one which is declared
 pub cache_found : (d : Draft) (w : List ℕ) (s : ℕ) → cache_number d w ≡ Some s → has_cache d s ≡ true
@@ -59,8 +59,8 @@ message_found is_class d w m e =
 -- the reply of a pair is declared
 reply_found : (d : Draft) (w : List ℕ) (r : ReplyName) → reply_name d w ≡ Some r → has_reply_name d r ≡ true
 reply_found d w r =
-    told (λ r. has_reply_name d r ≡ true) w (codes "AckCount") _ _ r (λ h e. subst (λ r. has_reply_name d r ≡ true) (same_Some _ _ e) refl)
-    (λ e. mapped reply.Reply (message_number is_reply d w) r e (λ m is_m f. subst (λ r. has_reply_name d r ≡ true) f (message_found is_reply d w m is_m)))
+    word_test_some (λ r. has_reply_name d r ≡ true) w (codes "AckCount") _ _ r (λ h e. subst (λ r. has_reply_name d r ≡ true) (same_Some _ _ e) refl)
+    (λ e. option_map-some reply.Reply (message_number is_reply d w) r e (λ m is_m f. subst (λ r. has_reply_name d r ≡ true) f (message_found is_reply d w m is_m)))
 
 -- a pair is declared
 pair_found : (d : Draft) (r f : List ℕ) (p : Pair) → pair_of d r f ≡ Some p → has_pair d p ≡ true
@@ -197,7 +197,7 @@ by_class_found d n x Reply a is_x h e =
 action_found : (d : Draft) (w : List ℕ) (a : Action) → action_of d w ≡ Some a → has_action d a ≡ true
 unfolding action_of
 action_found d w a =
-    told (λ a. has_action d a ≡ true) w (codes "count") _ _ a (λ h e. subst (λ a. has_action d a ≡ true) (same_Some _ _ e) refl)
+    word_test_some (λ a. has_action d a ≡ true) w (codes "count") _ _ a (λ h e. subst (λ a. has_action d a ≡ true) (same_Some _ _ e) refl)
     (λ e. then_some (number_of (message_names d) w) _ a e (λ n is_n e.
     then_some (slice_get d.messages n) _ a e (λ x is_x e. by_class_found d n x x.class a is_x refl e)))
 

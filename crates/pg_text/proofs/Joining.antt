@@ -4,7 +4,7 @@ use Rattle.pg_lines.specs.Lines.{line_text, text_of}
 use Rattle.pg_forms.specs.declared.line.Line.{Line}
 use Rattle.pg_forms.specs.Forms.{spelling}
 
--- the text of lines, and of the lines behind them
+-- the text of lines, and of the lines after them
 text_of-both : (ls more : List Line) → text_of (map spelling (ls ++ more)) ≡ text_of (map spelling ls) ++ text_of (map spelling more)
 text_of-both [] more = refl
 text_of-both (l ∷ ls) more =

@@ -15,12 +15,12 @@ use Rattle.pg_lines.specs.Lines.{words_of}
 use Rattle.pg_forms.specs.Kinds.{kind_of}
 use Rattle.pg_forms.specs.Reading.{line_of}
 use Rattle.pg_drafting.specs.Numbering.{with_line, is_taken, is_full}
-use Rattle.pg_text.specs.FormFaults.{Above, is_out_of_order, breaks, below, after, form_rules}
-use Rattle.pg_text.specs.Texts.{judged, judge, drafted_at}
+use Rattle.pg_text.specs.FormFaults.{LinesAbove, is_out_of_order, line_breaks, above_with_form, above_with_line, form_rules}
+use Rattle.pg_text.specs.Texts.{judgement, line_judgement, draft_at}
 use Rattle.pg_forms.proofs.Options.{same_err, same_ok}
 
 -- what is judged of a line of this kind, from the answers to F2 to F5
-abbrev outcome : Kind → Bool → Bool → Option Draft → Bool → Result Above Rule
+abbrev outcome : Kind → Bool → Bool → Option Draft → Bool → Result LinesAbove Rule
 outcome k true taken more over = Err F2
 outcome k false true more over = Err F3
 outcome k false false None over = Err F4
@@ -77,7 +77,7 @@ none_broken d F1 = refl
 none_broken d _ = refl
 
 -- a line that is taken breaks no rule, and its kind and draft are then those of the lines above
-outcome_sound : (k : Kind) (order taken : Bool) (more : Option Draft) (over : Bool) (old : Draft) (above : Above)
+outcome_sound : (k : Kind) (order taken : Bool) (more : Option Draft) (over : Bool) (old : Draft) (above : LinesAbove)
     → outcome k order taken more over ≡ Ok above → (above ≡ record { kind = Some k; draft = unwrap_or more old }) × IsClean (broken order taken more over)
 outcome_sound k true taken more over old above e = absurd cc
 outcome_sound k false true more over old above e = absurd cc
@@ -86,14 +86,14 @@ outcome_sound k false false (Some d) true old above e = absurd cc
 outcome_sound k false false (Some d) false old above e = (sym (same_ok _ above e), none_broken d)
 
 -- a line in a form is judged by the answers to F2 to F5
-judged_as : (above : Above) (n : ℕ) (is_long : Bool) (l : Line)
-    → judged above n is_long (Some l)
+judged_as : (above : LinesAbove) (n : ℕ) (is_long : Bool) (l : Line)
+    → judgement above n is_long (Some l)
     ≡ outcome (kind_of l) (is_out_of_order n above.kind (kind_of l)) (is_taken above.draft l) (with_line above.draft n l) (is_long || is_full above.draft l)
 judged_as above n is_long l = at _ _ _ _ _ refl refl refl refl refl
   where
     at : (order taken : Bool) (more : Option Draft) (long full : Bool) → is_out_of_order n above.kind (kind_of l) ≡ order → is_taken above.draft l ≡ taken
         → with_line above.draft n l ≡ more → is_long ≡ long → is_full above.draft l ≡ full
-        → judged above n is_long (Some l) ≡ outcome (kind_of l) order taken more (long || full)
+        → judgement above n is_long (Some l) ≡ outcome (kind_of l) order taken more (long || full)
     at true taken more long full a b c d e = rw a refl
     at false true more long full a b c d e = rw (a, b) refl
     at false false None long full a b c d e = rw (a, b, c) refl
@@ -103,7 +103,7 @@ judged_as above n is_long l = at _ _ _ _ _ refl refl refl refl refl
     at false false (Some more) false false a b c d e = rw (a, b, c, d, e) refl
 
 -- the rules that a line breaks, from whether it is long and from its form
-abbrev breaks_as : Above → ℕ → Bool → Option Line → Rule → Bool
+abbrev breaks_as : LinesAbove → ℕ → Bool → Option Line → Rule → Bool
 breaks_as above n is_long None F1 = true
 breaks_as above n is_long None F5 = is_long || false
 breaks_as above n is_long None _ = false
@@ -111,8 +111,8 @@ breaks_as above n is_long (Some l) R =
     broken (is_out_of_order n above.kind (kind_of l)) (is_taken above.draft l) (with_line above.draft n l) (is_long || is_full above.draft l) R
 
 -- the rules that a line breaks are those that its length and its form break
-breaks_is : (above : Above) (n : ℕ) (ws : List (List ℕ)) (o : Option Line) → line_of ws ≡ o → (R : Rule)
-    → breaks above n ws R ≡ breaks_as above n (nat_lt 80 (length ws)) o R
+breaks_is : (above : LinesAbove) (n : ℕ) (ws : List (List ℕ)) (o : Option Line) → line_of ws ≡ o → (R : Rule)
+    → line_breaks above n ws R ≡ breaks_as above n (nat_lt 80 (length ws)) o R
 breaks_is above n ws None e F1 = rw e refl
 breaks_is above n ws None e F2 = rw e refl
 breaks_is above n ws None e F3 = rw e refl
@@ -132,37 +132,37 @@ from_F1 F1 = omega arith
 from_F1 _ = omega arith
 
 -- a form that is refused breaks the rule that is given, and no rule before it
-judged_first : (above : Above) (n : ℕ) (is_long : Bool) (o : Option Line) (R : Rule) → judged above n is_long o ≡ Err R
+judged_first : (above : LinesAbove) (n : ℕ) (is_long : Bool) (o : Option Line) (R : Rule) → judgement above n is_long o ≡ Err R
     → IsFirst (breaks_as above n is_long o) R
 judged_first above n is_long None R e = subst (IsFirst (breaks_as above n is_long None)) (same_err F1 R e) (refl, λ Q h. from_F1 Q)
 judged_first above n is_long (Some l) R e =
     outcome_first (kind_of l) _ _ _ _ R (sym (judged_as above n is_long l) ∙ e)
 
 -- a form that is taken breaks no rule, and is then the last of those above
-judged_sound : (above : Above) (n : ℕ) (is_long : Bool) (o : Option Line) (more : Above) → judged above n is_long o ≡ Ok more
-    → (more ≡ below above n o) × IsClean (breaks_as above n is_long o)
+judged_sound : (above : LinesAbove) (n : ℕ) (is_long : Bool) (o : Option Line) (more : LinesAbove) → judgement above n is_long o ≡ Ok more
+    → (more ≡ above_with_form above n o) × IsClean (breaks_as above n is_long o)
 judged_sound above n is_long None more e = absurd cc
 judged_sound above n is_long (Some l) more e =
     outcome_sound (kind_of l) _ _ _ _ above.draft more (sym (judged_as above n is_long l) ∙ e)
 
 -- a line that is refused breaks the rule that is given, and no rule before it
-pub judge_first : (above : Above) (n : ℕ) (line : List ℕ) (R : Rule) → judge above n line ≡ Err R → IsFirst (breaks above n (words_of line)) R
+pub judge_first : (above : LinesAbove) (n : ℕ) (line : List ℕ) (R : Rule) → line_judgement above n line ≡ Err R → IsFirst (line_breaks above n (words_of line)) R
 judge_first above n line R e =
     let same = breaks_is above n (words_of line) _ refl in
     let p = judged_first above n _ _ R e in
     (same R ∙ p.0, λ Q h. p.1 Q (sym (same Q) ∙ h))
 
 -- a line that is taken breaks no rule, and is then the last of those above
-pub judge_sound : (above : Above) (n : ℕ) (line : List ℕ) (more : Above) → judge above n line ≡ Ok more
-    → (more ≡ after above n line) × IsClean (breaks above n (words_of line))
+pub judge_sound : (above : LinesAbove) (n : ℕ) (line : List ℕ) (more : LinesAbove) → line_judgement above n line ≡ Ok more
+    → (more ≡ above_with_line above n line) × IsClean (line_breaks above n (words_of line))
 judge_sound above n line more e =
     let p = judged_sound above n _ _ more e in
     (p.0, λ Q. breaks_is above n (words_of line) _ refl Q ∙ p.1 Q)
 
 -- judging a line is exact
-pub judge_exact : IsExact form_rules judge
+pub judge_exact : IsExact form_rules line_judgement
 judge_exact = record { first = judge_first; clean = judge_sound }
 
 -- what reading gives once line n was judged
-abbrev pub read_on : ℕ → Bool → Result Above Rule → List (List ℕ) → (Above → Result (Draft × ℕ) Fault) → Result (Draft × ℕ) Fault
-read_on n is_last j lines go_on = faults.read_on None drafted_at n is_last j lines go_on
+abbrev pub read_on : ℕ → Bool → Result LinesAbove Rule → List (List ℕ) → (LinesAbove → Result (Draft × ℕ) Fault) → Result (Draft × ℕ) Fault
+read_on n is_last j lines go_on = faults.read_on None draft_at n is_last j lines go_on

@@ -1,4 +1,4 @@
--- The lines of a draft in the order of a text, when a line goes behind them.
+-- The lines of a draft in the order of a text, when a line goes after them.
 use Rattle.std.proofs.Common.{◌≡◌, ℕ, ◌+◌, ◌≤◌, ◌<◌, true, List, [], ◌∷◌, ◌++◌, map, ap, arith}
 use Rattle.std.specs.Prelude.{nat_le}
 use Rattle.std.specs.List.{list_all}
@@ -12,9 +12,9 @@ use Rattle.pg_perm.specs.declared.draft.TakeLine.{TakeLine}
 use Rattle.pg_perm.specs.declared.draft.RowLine.{RowLine}
 use Rattle.pg_perm.specs.Classes.{class_rank}
 use Rattle.pg_lines.proofs.Weaker.{all_weaker}
-use Rattle.pg_text.proofs.Growing.{last_of, behind_front, map_behind, map_none}
+use Rattle.pg_text.proofs.Growing.{last_of, append_after_front, map_append, map_none}
 
--- the draft has no lines of kinds behind this place in the order
+-- the draft has no lines of kinds after this place in the order
 pub record IsBefore (d : Draft) (r : ℕ) : Type 0 where
   pub no_dirs : r < 2 → d.dirs ≡ []
   pub no_messages : r < 3 → d.messages ≡ []
@@ -68,13 +68,13 @@ module _ {B : Type 0} (listing : Listing B) where
 
   -- a row line is last
   pub row_last : (d : Draft) (r : RowLine) (y : B) → listing.row r ≡ y → listed (record d { rows = d.rows ++ r ∷ [] }) ≡ listed d ++ y ∷ []
-  row_last d r y e = behind_front (to_takes d) (map listing.row d.rows) _ y (map_behind listing.row d.rows r y e)
+  row_last d r y e = append_after_front (to_takes d) (map listing.row d.rows) _ y (map_append listing.row d.rows r y e)
 
   -- a take line is last where there are no row lines
   pub take_last : (d : Draft) (t : TakeLine) (y : B) → listing.take t ≡ y → IsBefore d 7
       → listed (record d { takes = d.takes ++ t ∷ [] }) ≡ listed d ++ y ∷ []
   take_last d t y e b =
-      last_of (to_takes d) _ (map listing.row d.rows) y (behind_front (to_cores d) (map listing.take d.takes) _ y (map_behind listing.take d.takes t y e))
+      last_of (to_takes d) _ (map listing.row d.rows) y (append_after_front (to_cores d) (map listing.take d.takes) _ y (map_append listing.take d.takes t y e))
       (map_none listing.row d.rows (b.no_rows (omega arith)))
 
   -- what is last up to the core lines is last where no lines follow them
@@ -88,7 +88,7 @@ module _ {B : Type 0} (listing : Listing B) where
   -- a core line is last where no lines follow the core lines
   pub core_last : (d : Draft) (c : CoreLine) (y : B) → listing.core c ≡ y → IsBefore d 6
       → listed (record d { cores = d.cores ++ c ∷ [] }) ≡ listed d ++ y ∷ []
-  core_last d c y e b = cores_last d _ y b (behind_front (to_messages d) (map listing.core d.cores) _ y (map_behind listing.core d.cores c y e))
+  core_last d c y e b = cores_last d _ y b (append_after_front (to_messages d) (map listing.core d.cores) _ y (map_append listing.core d.cores c y e))
 
   -- the same of the message lines
   messages_last : (d : Draft) (more : List B) (y : B) → IsBefore d 5 → more ≡ to_messages d ++ y ∷ []
@@ -99,7 +99,7 @@ module _ {B : Type 0} (listing : Listing B) where
 
   pub message_last : (d : Draft) (m : MsgLine) (y : B) → listing.message m ≡ y → IsBefore d 5
       → listed (record d { messages = d.messages ++ m ∷ [] }) ≡ listed d ++ y ∷ []
-  message_last d m y e b = messages_last d _ y b (behind_front (to_dirs d) (map listing.message d.messages) _ y (map_behind listing.message d.messages m y e))
+  message_last d m y e b = messages_last d _ y b (append_after_front (to_dirs d) (map listing.message d.messages) _ y (map_append listing.message d.messages m y e))
 
   -- the same of the dir lines
   dirs_last : (d : Draft) (more : List B) (y : B) → IsBefore d 2 → more ≡ to_dirs d ++ y ∷ []
@@ -110,12 +110,12 @@ module _ {B : Type 0} (listing : Listing B) where
 
   pub dir_last : (d : Draft) (s : DirLine) (y : B) → listing.dir s ≡ y → IsBefore d 2
       → listed (record d { dirs = d.dirs ++ s ∷ [] }) ≡ listed d ++ y ∷ []
-  dir_last d s y e b = dirs_last d _ y b (behind_front (to_caches d) (map listing.dir d.dirs) _ y (map_behind listing.dir d.dirs s y e))
+  dir_last d s y e b = dirs_last d _ y b (append_after_front (to_caches d) (map listing.dir d.dirs) _ y (map_append listing.dir d.dirs s y e))
 
   -- a cache line is last where no lines follow the cache lines
   pub cache_last : (d : Draft) (c : CacheLine) (y : B) → listing.cache c ≡ y → IsBefore d 1
       → listed (record d { caches = d.caches ++ c ∷ [] }) ≡ listed d ++ y ∷ []
   cache_last d c y e b =
       dirs_last d _ y (before_later d 1 2 (omega arith) b)
-      (last_of (to_caches d) _ (map listing.dir d.dirs) y (ap (λ (ys : List B). listing.first ∷ ys) (map_behind listing.cache d.caches c y e))
+      (last_of (to_caches d) _ (map listing.dir d.dirs) y (ap (λ (ys : List B). listing.first ∷ ys) (map_append listing.cache d.caches c y e))
       (map_none listing.dir d.dirs (b.no_dirs (omega arith))))

@@ -204,7 +204,7 @@ uses_declared d Store (form.Hit next) has = has
 uses_declared d Store (form.Ask request pairs) has = asks_declared d request pairs has
 uses_declared d Store (form.Leave request) has = absurd cc
 
--- what stands behind the event of a core line
+-- what stands after the event of a core line
 form_again : (e d : Draft) (f : CoreForm) → KnowsCaches e d → KnowsMessages e d → UsesDeclared d f → core_form e (core_shape d f) ≡ Some f
 unfolding core_form
 form_again e d (form.Hit None) c k has = refl
@@ -299,7 +299,7 @@ action_again e d (action.Forward m) k has =
     ∙ by_forward m same.0.class same.2
 action_again e d action.Count k has = counting e
 
--- what stands behind the state of a row line
+-- what stands after the state of a row line
 row_form_again : (e d : Draft) (f : RowForm) → KnowsMessages e d → has_row_form d f ≡ true → row_form e (row_shape_of d f) ≡ Some f
 unfolding row_form
 row_form_again e d (rows.Ask request who act) k has =

@@ -5,7 +5,7 @@ use Rattle.std.specs.List.{list_all, list_any}
 use Rattle.std.proofs.lemmas.Bool.{and_parts, leb-true}
 use Rattle.pg_perm.specs.Names.{is_name, is_state_name}
 use Rattle.pg_perm.specs.declared.draft.Draft.{Draft}
-use Rattle.pg_perm.specs.Drafts.{cache_names, dir_names, message_names, taken_names, rule_lines, are_distinct, has_names, has_free_names, has_numbers, has_limits, has_cache, has_core, has_take, has_row, pair_count, IsWellFormed}
+use Rattle.pg_perm.specs.Drafts.{cache_names, dir_names, message_names, taken_names, rule_line_count, are_distinct, has_names, has_free_names, has_numbers, has_limits, has_cache, has_core, has_take, has_row, pair_count, IsWellFormed}
 
 -- no name is among those that no message may have
 abbrev pub are_free : List (List ℕ) → Bool
@@ -41,7 +41,7 @@ limits_are d h =
     let a : Bool = nat_le (length d.caches) 16 in
     let b : Bool = nat_le (length d.dirs) 16 in
     let c : Bool = nat_le (length d.messages) 32 in
-    let e : Bool = nat_le (rule_lines d) 512 in
+    let e : Bool = nat_le (rule_line_count d) 512 in
     let f : Bool = list_all (λ s. nat_le (length s.beside) 77) d.dirs in
     let g : Bool = list_all (λ c. nat_le (pair_count c.form) 38) d.cores in
     let sixth = and_parts (a && b && c && e && f) g h in
@@ -53,7 +53,7 @@ limits_are d h =
       caches = leb-true (length d.caches) 16 first.0;
       dirs = leb-true (length d.dirs) 16 first.1;
       messages = leb-true (length d.messages) 32 third.1;
-      rules = leb-true (rule_lines d) 512 fourth.1;
+      rules = leb-true (rule_line_count d) 512 fourth.1;
       beside = fifth.1;
       pairs = sixth.1;
     }
@@ -90,13 +90,13 @@ names_free d h =
     record { caches = first.0; dirs = first.1; messages = third.1; free = last.1 }
 
 -- what is known of a well-formed draft
-pub record Known (d : Draft) : Type 0 where
+pub record WellFormedParts (d : Draft) : Type 0 where
   pub names : NamesAre d
   pub free : NamesFree d
   pub numbers : NumbersAre d
   pub limits : LimitsAre d
 
 -- each part of what makes a draft well formed
-pub known : (d : Draft) → IsWellFormed d → Known d
-known d w =
+pub well_formed_parts : (d : Draft) → IsWellFormed d → WellFormedParts d
+well_formed_parts d w =
     record { names = names_are d w.names; free = names_free d w.free; numbers = numbers_are d w.numbers; limits = limits_are d w.limits }

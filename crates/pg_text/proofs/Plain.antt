@@ -46,7 +46,7 @@ are_words ws = list_all is_word ws
 more_words : (w : List ℕ) (ws : List (List ℕ)) → is_word w ≡ true → are_words ws ≡ true → are_words (w ∷ ws) ≡ true
 more_words w ws h g = and_from (is_word w) (are_words ws) h g
 
--- each character of a name comes behind the space and the newline
+-- each character of a name comes after the space and the newline
 name_byte-past : (b : ℕ) → is_name_byte b ≡ true → 48 ≤ b
 name_byte-past b h = grind (arith, nat_tests)
 
@@ -142,7 +142,7 @@ load_as_store (Hit next) h = h
 load_as_store (Ask request pairs) h = h
 load_as_store (Leave request) h = h
 
--- the words behind an event
+-- the words after an event
 shape_words_are : (event : Event) (s : CoreShape) → IsShapeOf event s → are_words (shape_words s) ≡ true
 shape_words_are Load s h = asking_words s h
 shape_words_are Store s h = asking_words s (load_as_store s h)

@@ -9,13 +9,13 @@ use Rattle.pg_lines.specs.Lines.{words_of}
 use Rattle.pg_forms.specs.Kinds.{kind_of}
 use Rattle.pg_drafting.specs.Numbering.{with_line, is_taken, is_full}
 use Rattle.pg_forms.specs.Reading.{line_of}
-use Rattle.pg_text.specs.FormFaults.{Above, is_out_of_order, breaks, below, after}
-use Rattle.pg_text.specs.Texts.{judge}
+use Rattle.pg_text.specs.FormFaults.{LinesAbove, is_out_of_order, line_breaks, above_with_form, above_with_line}
+use Rattle.pg_text.specs.Texts.{line_judgement}
 use Rattle.pg_faults.specs.FirstFaults.{IsClean}
 use Rattle.pg_text.proofs.Judging.{judge_sound}
 
 -- what is known of a line that was taken in
-pub record IsTakenIn (above : Above) (n : ℕ) (line : List ℕ) (next : Above) (l : Line) : Type 0 where
+pub record IsTakenIn (above : LinesAbove) (n : ℕ) (line : List ℕ) (next : LinesAbove) (l : Line) : Type 0 where
   pub is_line : line_of (words_of line) ≡ Some l
   pub in_place : is_out_of_order n above.kind (kind_of l) ≡ false
   pub new : is_taken above.draft l ≡ false
@@ -25,14 +25,14 @@ pub record IsTakenIn (above : Above) (n : ℕ) (line : List ℕ) (next : Above) 
   pub is_kind : next.kind ≡ Some (kind_of l)
 
 -- a line in this form that was taken in
-line_taken_in : (above : Above) (n : ℕ) (line : List ℕ) (next : Above) (l : Line) → line_of (words_of line) ≡ Some l → next ≡ after above n line
-    → IsClean (breaks above n (words_of line)) → (o : Option Draft) → with_line above.draft n l ≡ o → IsTakenIn above n line next l
+line_taken_in : (above : LinesAbove) (n : ℕ) (line : List ℕ) (next : LinesAbove) (l : Line) → line_of (words_of line) ≡ Some l → next ≡ above_with_line above n line
+    → IsClean (line_breaks above n (words_of line)) → (o : Option Draft) → with_line above.draft n l ≡ o → IsTakenIn above n line next l
 line_taken_in above n line next l e same clean None w =
     let declared : is_none (with_line above.draft n l) ≡ false = rw e at (clean F4) in
     absurd (cc declared)
 line_taken_in above n line next l e same clean (Some d) w =
     let is_next : next ≡ record { kind = Some (kind_of l); draft = d } =
-    same ∙ ap (below above n) e ∙ ap (λ (o : Option Draft). record { kind = Some (kind_of l); draft = unwrap_or o above.draft }) w in
+    same ∙ ap (above_with_form above n) e ∙ ap (λ (o : Option Draft). record { kind = Some (kind_of l); draft = unwrap_or o above.draft }) w in
     let long : (nat_lt 80 (length (words_of line)) || is_full above.draft l) ≡ false = rw e at (clean F5) in
     let t = or_parts (nat_lt 80 (length (words_of line))) (is_full above.draft l) long in
     record {
@@ -46,10 +46,10 @@ line_taken_in above n line next l e same clean (Some d) w =
     }
 
 -- a line that was taken in is in a form, and breaks no rule
-pub taken_in : (above : Above) (n : ℕ) (line : List ℕ) (next : Above) → judge above n line ≡ Ok next → (l : Line) × IsTakenIn above n line next l
+pub taken_in : (above : LinesAbove) (n : ℕ) (line : List ℕ) (next : LinesAbove) → line_judgement above n line ≡ Ok next → (l : Line) × IsTakenIn above n line next l
 taken_in above n line next j = at (line_of (words_of line)) refl (judge_sound above n line next j)
   where
-    at : (o : Option Line) → line_of (words_of line) ≡ o → (next ≡ after above n line) × IsClean (breaks above n (words_of line))
+    at : (o : Option Line) → line_of (words_of line) ≡ o → (next ≡ above_with_line above n line) × IsClean (line_breaks above n (words_of line))
         → (l : Line) × IsTakenIn above n line next l
     at None e s = let formed : is_none (line_of (words_of line)) ≡ false = s.1 F1 in absurd (cc formed)
     at (Some l) e s = (l, line_taken_in above n line next l e s.0 s.1 (with_line above.draft n l) refl)

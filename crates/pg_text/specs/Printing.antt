@@ -72,17 +72,17 @@ lines_in d = Protocol d.name ∷ map cache_line_of d.caches ++ map (dir_line_of 
     ++ map (core_line_of d) d.cores ++ map (take_line_of d) d.takes ++ map (row_line_of d) d.rows ++ End ∷ []
 
 -- the text of a draft
-abbrev pub printed : Draft → List ℕ
-printed d = text_of (map spelling (lines_in d))
+abbrev pub draft_text : Draft → List ℕ
+draft_text d = text_of (map spelling (lines_in d))
 
 -- the elements numbered from n on
-abbrev pub numbered : {A : Type 0} → (ℕ → A → A) → ℕ → List A → List A
-numbered with_number n [] = []
-numbered with_number n (x ∷ xs) = with_number n x ∷ numbered with_number (n + 1) xs
+abbrev pub numbered_elements : {A : Type 0} → (ℕ → A → A) → ℕ → List A → List A
+numbered_elements with_number n [] = []
+numbered_elements with_number n (x ∷ xs) = with_number n x ∷ numbered_elements with_number (n + 1) xs
 
 -- the draft whose lines have the numbers that they have in its text
-abbrev pub renumbered : Draft → Draft
-renumbered d =
+abbrev pub renumbered_draft : Draft → Draft
+renumbered_draft d =
     let dirs_from : ℕ = 2 + length d.caches in
     let messages_from : ℕ = dirs_from + length d.dirs in
     let cores_from : ℕ = messages_from + length d.messages in
@@ -91,10 +91,10 @@ renumbered d =
     record {
       line = 1;
       name = d.name;
-      caches = numbered (λ n (c : CacheLine). record c { line = n }) 2 d.caches;
-      dirs = numbered (λ n (s : DirLine). record s { line = n }) dirs_from d.dirs;
-      messages = numbered (λ n (m : MsgLine). record m { line = n }) messages_from d.messages;
-      cores = numbered (λ n (c : CoreLine). record c { line = n }) cores_from d.cores;
-      takes = numbered (λ n (t : TakeLine). record t { line = n }) takes_from d.takes;
-      rows = numbered (λ n (r : RowLine). record r { line = n }) rows_from d.rows;
+      caches = numbered_elements (λ n (c : CacheLine). record c { line = n }) 2 d.caches;
+      dirs = numbered_elements (λ n (s : DirLine). record s { line = n }) dirs_from d.dirs;
+      messages = numbered_elements (λ n (m : MsgLine). record m { line = n }) messages_from d.messages;
+      cores = numbered_elements (λ n (c : CoreLine). record c { line = n }) cores_from d.cores;
+      takes = numbered_elements (λ n (t : TakeLine). record t { line = n }) takes_from d.takes;
+      rows = numbered_elements (λ n (r : RowLine). record r { line = n }) rows_from d.rows;
     }

@@ -4,26 +4,26 @@ ghost use Rattle.std.specs.Prelude.{◌≡◌, ◌≤◌, ◌↔◌, ℕ, List, 
 ghost use Rattle.pg_perm.specs.declared.draft.Draft.{Draft};
 ghost use Rattle.pg_perm.specs.declared.fault.Fault.{Fault};
 ghost use Rattle.pg_perm.specs.Drafts.{IsWellFormed};
-ghost use Rattle.pg_lines.specs.Lines.{lines_of, words_of, place_behind};
+ghost use Rattle.pg_lines.specs.Lines.{lines_of, words_of, place_after};
 ghost use Rattle.pg_forms.specs.Forms.{spelling};
 ghost use Rattle.pg_text.specs.FormFaults.{IsFormFault};
 ghost use Rattle.pg_text.specs.Texts.{reading, IsText};
-ghost use Rattle.pg_text.specs.Printing.{lines_in, printed, renumbered};
+ghost use Rattle.pg_text.specs.Printing.{lines_in, draft_text, renumbered_draft};
 ghost use Rattle.pg_text.specs.Worked.{worked_draft};
 
 use pg_perm::Rule;
 
 /// Reading answers a fault exactly where it is the first one of the text, and a draft with a place exactly where no line breaks a rule,
-/// the draft is what the lines declare, and the place is behind the end line.
+/// the draft is what the lines declare, and the place is after the end line.
 pub fn first_fault_is_exact()
     ensures fault { (bytes : List ℕ) (f : Fault) → (reading bytes ≡ Err f) ↔ IsFormFault bytes f }
     ensures text { (bytes : List ℕ) (d : Draft) (place : ℕ) → (reading bytes ≡ Ok (d, place)) ↔ IsText bytes d place }
 {}
 
-/// The lines of a text up to its end line are, word for word, those of the draft that was read, and the place is behind them.
+/// The lines of a text up to its end line are, word for word, those of the draft that was read, and the place is after them.
 pub fn lines_are_kept()
     ensures kept { (bytes : List ℕ) (d : Draft) (place : ℕ) → reading bytes ≡ Ok (d, place)
-        → (n : ℕ) × (map words_of (take n (lines_of bytes)) ≡ map spelling (lines_in d)) × (place ≡ place_behind n bytes) }
+        → (n : ℕ) × (map words_of (take n (lines_of bytes)) ≡ map spelling (lines_in d)) × (place ≡ place_after n bytes) }
 {}
 
 /// What the rules say of small texts that break them, one for each rule at least, and what one says that breaks none.
@@ -47,12 +47,12 @@ pub fn worked_texts()
     ensures text { reading (codes "protocol P\ncache I out none\ncache S shared read\nrequest GetS read\nrequest PutS clean\nreply Data data\ncore I load GetS Data S\ncore S load hit\ncore S evict PutS\nend\ncores 2\n")
         ≡ Ok (worked_draft, 163) }
     ensures well_formed { IsWellFormed worked_draft }
-    ensures printed { printed worked_draft ≡ codes "protocol P\ncache I out none\ncache S shared read\nrequest GetS read\nrequest PutS clean\nreply Data data\ncore I load GetS Data S\ncore S load hit\ncore S evict PutS\nend\n" }
-    ensures renumbered { renumbered worked_draft ≡ worked_draft }
+    ensures printed { draft_text worked_draft ≡ codes "protocol P\ncache I out none\ncache S shared read\nrequest GetS read\nrequest PutS clean\nreply Data data\ncore I load GetS Data S\ncore S load hit\ncore S evict PutS\nend\n" }
+    ensures renumbered { renumbered_draft worked_draft ≡ worked_draft }
 {}
 
 /// The text of a well-formed draft is read as that draft, with its lines numbered from 1, and has at most 1,300,000 bytes.
 pub fn printing_is_exact()
-    ensures back { (d : Draft) → IsWellFormed d → reading (printed d) ≡ Ok (renumbered d, length (printed d)) }
-    ensures short { (d : Draft) → IsWellFormed d → length (printed d) ≤ 1300000 }
+    ensures back { (d : Draft) → IsWellFormed d → reading (draft_text d) ≡ Ok (renumbered_draft d, length (draft_text d)) }
+    ensures short { (d : Draft) → IsWellFormed d → length (draft_text d) ≤ 1300000 }
 {}

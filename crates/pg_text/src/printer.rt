@@ -3,7 +3,7 @@ ghost use Rattle.std.specs.String.{string_bytes};
 ghost use Rattle.pg_lines.specs.Lines.{text_of};
 ghost use Rattle.pg_perm.specs.Drafts.{IsWellFormed};
 ghost use Rattle.pg_forms.specs.Forms.{spelling};
-ghost use Rattle.pg_text.specs.Printing.{printed, renumbered};
+ghost use Rattle.pg_text.specs.Printing.{draft_text, renumbered_draft};
 ghost use Rattle.pg_text.specs.Texts.{reading};
 
 use crate::spelled::Spelled;
@@ -35,8 +35,8 @@ fn put_lines<T: Spelled>(
 /// It is read as the same draft, with its lines numbered from 1.
 pub fn print(alloc: Global, draft: &Draft) -> Result<Vec<u8>, AllocError>
     requires { IsWellFormed draft.now }
-    ensures exact { IfOk result (λ text. text.items ≡ printed draft.now) }
-    ensures read_back { IfOk result (λ text. reading text.items ≡ Ok (renumbered draft.now, length text.items)) }
+    ensures exact { IfOk result (λ text. text.items ≡ draft_text draft.now) }
+    ensures read_back { IfOk result (λ text. reading text.items ≡ Ok (renumbered_draft draft.now, length text.items)) }
     ensures short { IfOk result (λ text. length text.items ≤ 1300000) }
 {
     let mut text = String::new(alloc);

@@ -1,7 +1,7 @@
 ghost use Rattle.std.specs.Prelude.{◌≡◌, length, nat_lt};
 ghost use Rattle.pg_faults.specs.Answers.{Judges};
-ghost use Rattle.pg_text.specs.FormFaults.{is_out_of_order as is_out_of_order_of, nothing};
-ghost use Rattle.pg_text.specs.Texts.{judge, has_ended_by};
+ghost use Rattle.pg_text.specs.FormFaults.{is_out_of_order as is_out_of_order_of, no_lines_above};
+ghost use Rattle.pg_text.specs.Texts.{line_judgement, has_ended_by};
 
 use pg_drafting::Drafting;
 use pg_faults::LineError;
@@ -23,9 +23,9 @@ pub struct Reader {
 
 impl Model for Reader {
     ghost use Rattle.pg_drafting.specs.Draft.{draft_of};
-    ghost use Rattle.pg_text.specs.FormFaults.{Above};
+    ghost use Rattle.pg_text.specs.FormFaults.{LinesAbove};
 
-    ghost Value = { Above };
+    ghost Value = { LinesAbove };
 
     ghost view = { λ r. record { kind = r.kind; draft = draft_of r.drafting } };
 }
@@ -60,7 +60,7 @@ fn is_out_of_order(number: u32, above: Option<Kind>, kind: Kind) -> bool
 impl Reader {
     /// No lines.
     pub fn new(alloc: Global) -> Reader
-        ensures { result ≡ nothing }
+        ensures { result ≡ no_lines_above }
     {
         Reader {
             kind: None,
@@ -75,7 +75,7 @@ impl Reader {
         number: u32,
         bytes: &[u8],
     ) -> Result<Reader, LineError<Rule>>
-        ensures { Judges result (judge self number bytes.now) }
+        ensures { Judges result (line_judgement self number bytes.now) }
     {
         let words = Words::of(bytes);
         let Some(line) = line_of(&words) else {

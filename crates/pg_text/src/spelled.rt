@@ -137,7 +137,7 @@ fn put_pairs<'a>(
     Ok(())
 }
 
-/// Puts what stands behind the event of a core line last.
+/// Puts what stands after the event of a core line last.
 fn put_form<'a>(
     words: &mut Vec<&'a str>,
     draft: &'a Draft,

@@ -11,9 +11,9 @@ use pg_lines::split_line;
 use pg_perm::{Draft, Fault, Rule};
 use std::alloc::Global;
 
-/// Gives the text of a protocol, up to its first `end` line. Nothing behind that line is judged.
+/// Gives the text of a protocol, up to its first `end` line. Nothing after that line is judged.
 ///
-/// The answer is the draft of the text and the place behind its `end` line, counted in bytes. docs/TEXT.md has the rules, of which the first
+/// The answer is the draft of the text and the place after its `end` line, counted in bytes. docs/TEXT.md has the rules, of which the first
 /// that the first wrong line breaks is the fault.
 pub fn read(alloc: Global, bytes: &[u8]) -> Result<(Draft, u32), TextError>
     requires { length bytes.now < 4294967295 }

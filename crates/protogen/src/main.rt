@@ -25,7 +25,7 @@ fn run(rt: &HostRuntime) -> Status {
     protogen(rt.alloc(), &words, &mut source, &mut sink)
 }
 
-// The words behind the program's name, and none if they can't be had as text.
+// The words after the program's name, and none if they can't be had as text.
 fn words(rt: &(impl Env + AllocGlobal)) -> Result<Vec<String>, AllocError> {
     match env::args(rt) {
         Ok(args) => args.skip(1).collect(rt.alloc()),

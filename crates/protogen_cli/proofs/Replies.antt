@@ -13,7 +13,7 @@ use Rattle.pg_script.specs.Scripts.{Operations}
 use Rattle.pg_script.specs.Texts.{reading as script_reading}
 use Rattle.protogen_cli.specs.declared.words.Command.{Command}
 use Rattle.protogen_cli.specs.declared.words.Command.TheVariants.{Check, Atomic, Compile}
-use Rattle.protogen_cli.specs.Replies.{Reply, too_long, most_bytes, answer_to_script, answer_to_protocol, answer_to_draft, answer_to_text, answer_to_input}
+use Rattle.protogen_cli.specs.Replies.{Reply, too_long_reply, most_bytes, answer_to_script, answer_to_protocol, answer_to_draft, answer_to_text, answer_to_input}
 use Rattle.protogen_cli.specs.Ends.{Tells, Outside, Ends}
 
 -- some input is told, whatever the source tells
@@ -21,12 +21,12 @@ pub some_told : (left : Option (List ℕ)) → (input : List ℕ) × Tells left 
 some_told None = ([], tt)
 some_told (Some left) = (left, refl)
 
-pub answer-long : (command : Command) (input : List ℕ) → 1048576 < length input → answer_to_input command input ≡ too_long
+pub answer-long : (command : Command) (input : List ℕ) → 1048576 < length input → answer_to_input command input ≡ too_long_reply
 answer-long command input h = rw (lt-ltb _ _ h) refl
 
 -- a source that gives too much tells an input that is too long
 pub long_told : (command : Command) (old new : Option (List ℕ)) → GaveCount old new (λ count. count ≡ 1048576 + 1)
-    → (input : List ℕ) × Tells old input × (too_long ≡ answer_to_input command input)
+    → (input : List ℕ) × Tells old input × (too_long_reply ≡ answer_to_input command input)
 long_told command None new (bytes, given, count) = (bytes, tt, sym (answer-long command bytes (omega (arith, count))))
 long_told command (Some old) None (bytes, given, count) = absurd given
 long_told command (Some old) (Some new) (bytes, given, count) =
@@ -53,7 +53,7 @@ answer_to_input-not-usage command input = at_length (nat_lt most_bytes (length i
     at_text (Ok (d, place)) e = at_draft d (drop place input) (shape_fault d) e
     at_text (Err f) e = cc
 
-    at_length : (is_long : Bool) → Usage ≡ (if is_long then too_long else answer_to_text command input (reading input)).status → ⊥
+    at_length : (is_long : Bool) → Usage ≡ (if is_long then too_long_reply else answer_to_text command input (reading input)).status → ⊥
     at_length true e = cc
     at_length false e = at_text (reading input) e
 
@@ -78,7 +78,7 @@ answer_to_input-replied command input = at_length (nat_lt most_bytes (length inp
     at_text (Ok (d, place)) = at_draft d (drop place input) (shape_fault d)
     at_text (Err f) = tt
 
-    at_length : (is_long : Bool) → IsReplied (if is_long then too_long else answer_to_text command input (reading input)).status
+    at_length : (is_long : Bool) → IsReplied (if is_long then too_long_reply else answer_to_text command input (reading input)).status
     at_length true = tt
     at_length false = at_text (reading input)
 

@@ -39,7 +39,7 @@ pub record RunsOut (old new : Outside) : Type 0 where
   pub held : new.held ≡ old.held
 
 -- the status is that of the reply, nothing failed and all its bytes were written
-pub record Replied (status : Status) (reply : Reply) (old new : Outside) : Type 0 where
+pub record RepliesInFull (status : Status) (reply : Reply) (old new : Outside) : Type 0 where
   pub due : status ≡ reply.status
   pub read_faults : new.read_faults ≡ old.read_faults
   pub write_faults : new.write_faults ≡ old.write_faults
@@ -50,11 +50,11 @@ abbrev pub Ends : Status → Reply → Outside → Outside → Type 0
 Ends ReadFault due old new = FailsToRead old new
 Ends WriteFault due old new = FailsToWrite due.bytes old new
 Ends Memory due old new = RunsOut old new
-Ends Done due old new = Replied Done due old new
-Ends (Text f) due old new = Replied (Text f) due old new
-Ends Usage due old new = Replied Usage due old new
-Ends TooLong due old new = Replied TooLong due old new
-Ends (Script f) due old new = Replied (Script f) due old new
+Ends Done due old new = RepliesInFull Done due old new
+Ends (Text f) due old new = RepliesInFull (Text f) due old new
+Ends Usage due old new = RepliesInFull Usage due old new
+Ends TooLong due old new = RepliesInFull TooLong due old new
+Ends (Script f) due old new = RepliesInFull (Script f) due old new
 
 -- nothing is left of what was left; nothing is said where it isn't told
 abbrev pub IsReadToEnd : Option (List ℕ) → Option (List ℕ) → Type 0

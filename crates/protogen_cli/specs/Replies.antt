@@ -35,12 +35,12 @@ abbrev pub script_line : Fault → List ℕ
 script_line f = codes "script line " ++ decimal f.line ++ codes " rule " ++ rule_name f.rule ++ codes "\n"
 
 -- the reply to words that aren't taken
-abbrev pub usage : Reply
-usage = record { status = Usage; bytes = codes "usage\n" }
+abbrev pub usage_reply : Reply
+usage_reply = record { status = Usage; bytes = codes "usage\n" }
 
 -- the reply to an input of more bytes
-abbrev pub too_long : Reply
-too_long = record { status = TooLong; bytes = codes "too long\n" }
+abbrev pub too_long_reply : Reply
+too_long_reply = record { status = TooLong; bytes = codes "too long\n" }
 
 -- the reply to the first fault of a text
 abbrev pub text_fault : Fault → Reply
@@ -51,8 +51,8 @@ abbrev pub script_fault : Fault → Reply
 script_fault f = record { status = Script f; bytes = script_line f }
 
 -- the reply to a text without a fault
-abbrev pub ok : Reply
-ok = record { status = Done; bytes = codes "ok\n" }
+abbrev pub ok_reply : Reply
+ok_reply = record { status = Done; bytes = codes "ok\n" }
 
 -- the reply to what a script says on a protocol, or to the script's first fault
 abbrev pub answer_to_script : Draft → Result Operations Fault → Reply
@@ -60,14 +60,14 @@ answer_to_script d (Ok s) = record { status = Done; bytes = histories d s }
 answer_to_script d (Err f) = script_fault f
 
 -- the reply to a protocol whose tables are asked for
-abbrev pub tables : Draft → Mode → Reply
-tables d m = record { status = Done; bytes = table_text (generated_tables d m) }
+abbrev pub tables_reply : Draft → Mode → Reply
+tables_reply d m = record { status = Done; bytes = table_text (generated_tables d m) }
 
--- the reply to a command on a protocol, with what stands behind its text
+-- the reply to a command on a protocol, with what stands after its text
 abbrev pub answer_to_protocol : Command → Draft → List ℕ → Reply
-answer_to_protocol Check d rest = ok
+answer_to_protocol Check d rest = ok_reply
 answer_to_protocol Atomic d rest = answer_to_script d (script_reading rest)
-answer_to_protocol (Compile m) d rest = tables d m
+answer_to_protocol (Compile m) d rest = tables_reply d m
 
 -- the reply to a draft by its first fault of the shape, if it has one
 abbrev pub answer_to_draft : Command → Draft → List ℕ → Option Fault → Reply
@@ -81,11 +81,11 @@ answer_to_text command input (Err f) = text_fault f
 
 -- the reply to the input of a command
 abbrev pub answer_to_input : Command → List ℕ → Reply
-answer_to_input command input = if nat_lt most_bytes (length input) then too_long else answer_to_text command input (reading input)
+answer_to_input command input = if nat_lt most_bytes (length input) then too_long_reply else answer_to_text command input (reading input)
 
 -- the reply to the input of a command, if there is one
 abbrev pub answer_to_command : Option Command → List ℕ → Reply
-answer_to_command None input = usage
+answer_to_command None input = usage_reply
 answer_to_command (Some command) input = answer_to_input command input
 
 -- the reply to the words and the whole input

@@ -8,8 +8,8 @@ use Rattle.protogen_cli.specs.declared.words.Command.{Command}
 use Rattle.protogen_cli.specs.declared.words.Command.TheVariants.{Check, Atomic, Compile}
 
 -- the bytes of each word
-abbrev pub texts : {A : Type 0} → List (String A) → List (List ℕ)
-texts words = map string_bytes words
+abbrev pub word_bytes : {A : Type 0} → List (String A) → List (List ℕ)
+word_bytes words = map string_bytes words
 
 -- the command that a word is, if it is one
 abbrev pub command_in : List ℕ → Option Command

@@ -1,5 +1,5 @@
 ghost use Rattle.std.specs.Prelude.{◌≡◌, ℕ, ◌-◌, ◌^◌, ◌<◌, ◌≤◌, ◌↔◌, ◌⊎◌, Some, List, false};
-ghost use Rattle.protogen_cli.specs.Words.{texts, is_taken};
+ghost use Rattle.protogen_cli.specs.Words.{word_bytes, is_taken};
 ghost use Rattle.protogen_cli.specs.Statuses.{IsReplied, IsOfText};
 ghost use Rattle.pg_io.specs.ReadAll.{GaveCount};
 ghost use Rattle.protogen_cli.specs.Replies.{Reply, answer};
@@ -15,7 +15,7 @@ use std::alloc::Global;
 ///
 /// `check` reads the source to its end and judges what it gave as the text of a protocol. It writes `ok`, or `line L rule R` for the first
 /// line L that breaks a rule and the first rule R that it breaks. The other commands do the same where a line breaks a rule. Where none does,
-/// `atomic` takes what stands behind the text's `end` line as a script and writes the histories of the script's blocks on the atomic machine,
+/// `atomic` takes what stands after the text's `end` line as a script and writes the histories of the script's blocks on the atomic machine,
 /// or `script line L rule R` for the first line L of the script that breaks a rule and the first such rule R; `compile --mode stall` and
 /// `compile --mode defer` write the tables of the protocol's controllers. All write `too long` where the source gave 1,048,577 bytes, which
 /// is one more than an input may have. At other words it reads nothing and writes `usage`. All that is written is made before any of it is
@@ -33,16 +33,16 @@ pub fn protogen<S: Source, K: Sink>(
     requires writes { K.faults sink.old < 2 ^ 64 - 1 }
 
     ensures answer { (input : List ℕ) × Tells (S.left source.old) input
-        × Ends result (answer (texts words.now) input)
+        × Ends result (answer (word_bytes words.now) input)
         (outside (K.held sink.old) (S.faults source.old) (K.faults sink.old))
         (outside (K.held sink.new) (S.faults source.new) (K.faults sink.new)) }
     ensures complete { (input : List ℕ) → S.left source.old ≡ Some input
         → S.faults source.new ≡ S.faults source.old → K.faults sink.new ≡ K.faults sink.old
-        → (result ≡ (answer (texts words.now) input).status) ⊎ (result ≡ Status.Memory) }
+        → (result ≡ (answer (word_bytes words.now) input).status) ⊎ (result ≡ Status.Memory) }
 
     ensures usage { (result ≡ Status.Usage)
-        ↔ ((is_taken (texts words.now) ≡ false) × (K.faults sink.new ≡ K.faults sink.old)) }
-    ensures unread { is_taken (texts words.now) ≡ false → source.new ≡ source.old }
+        ↔ ((is_taken (word_bytes words.now) ≡ false) × (K.faults sink.new ≡ K.faults sink.old)) }
+    ensures unread { is_taken (word_bytes words.now) ≡ false → source.new ≡ source.old }
     ensures whole { IsOfText result → IsReadToEnd (S.left source.old) (S.left source.new) }
     ensures taken { GaveCount (S.left source.old) (S.left source.new) (λ count. count ≤ 1048577) }
     ensures too_long { result ≡ Status.TooLong → GaveCount (S.left source.old) (S.left source.new) (λ count. count ≡ 1048577) }

@@ -79,7 +79,7 @@ impl Report {
 
     /// Generates the tables of the protocol.
     fn on_tables(alloc: Global, protocol: &Protocol, mode: Mode) -> Result<Self, AllocError>
-        ensures { IfOk result (λ report. report ≡ replies.tables protocol.now mode) }
+        ensures { IfOk result (λ report. report ≡ replies.tables_reply protocol.now mode) }
     {
         let tables = generate(alloc, protocol, mode)?;
         Ok(Report {
@@ -88,7 +88,7 @@ impl Report {
         })
     }
 
-    /// Does what the command asks of a protocol, with what stands behind its text.
+    /// Does what the command asks of a protocol, with what stands after its text.
     fn on_protocol(
         alloc: Global,
         command: Command,
@@ -137,7 +137,7 @@ impl Report {
     }
 
     pub fn too_long(alloc: Global) -> Result<Self, AllocError>
-        ensures { IfOk result (λ report. report ≡ replies.too_long) }
+        ensures { IfOk result (λ report. report ≡ replies.too_long_reply) }
     {
         Report::new(alloc, Status::TooLong, "too long\n")
     }

@@ -8,7 +8,7 @@ use pg_perm::Mode;
 pub enum Command {
     /// To judge a text.
     Check,
-    /// To run the script behind a text on its atomic machine.
+    /// To run the script after a text on its atomic machine.
     Atomic,
     /// To generate the tables of its controllers.
     Compile(Mode),
@@ -50,7 +50,7 @@ fn command_with(word: &str, option: &str, value: &str) -> Option<Command>
 
 /// The command that the words are, if they are one: a word alone, or one with an option and its value.
 pub fn command_of(words: &[String]) -> Option<Command>
-    ensures { result ≡ spec.command_of (spec.texts words.now) }
+    ensures { result ≡ spec.command_of (spec.word_bytes words.now) }
 {
     match words {
         [word] => command_in(word.as_str()),
@@ -61,7 +61,7 @@ pub fn command_of(words: &[String]) -> Option<Command>
 
 /// Whether the words are those of a command: `check`, `atomic`, `compile --mode stall` or `compile --mode defer`.
 pub fn taken(words: &[String]) -> bool
-    ensures { result ≡ spec.is_taken (spec.texts words.now) }
+    ensures { result ≡ spec.is_taken (spec.word_bytes words.now) }
 {
     command_of(words).is_some()
 }

@@ -2,9 +2,9 @@
 ghost use Rattle.std.specs.Prelude.{◌≡◌, Some, IfOk, if◌then◌else◌};
 ghost use Rattle.std.specs.Option.{option_copied};
 ghost use Rattle.pg_terms.specs.Rows as rows;
-ghost use Rattle.pg_table.specs.Home as home;
+ghost use Rattle.pg_table.specs.Directory as directory;
 
-use crate::choice::{HomeChoice, HomeChosen, step};
+use crate::choice::{DirChoice, DirChosen, step};
 use crate::controller::State;
 use pg_perm::{Action, DirKind, Draft, Left, Mode, ReqClass, RowLine, Sequence, Who};
 use pg_shape::Protocol;
@@ -20,20 +20,20 @@ fn by_ask(
     class: ReqClass,
     row: &RowLine,
     action: Action,
-) -> HomeChosen
-    ensures { IfOk result (λ choice. choice ≡ Some (home.by_ask draft.now dir class row.now action)) }
+) -> DirChosen
+    ensures { IfOk result (λ choice. choice ≡ Some (directory.by_ask draft.now dir class row.now action)) }
 {
     let mut acts = Vec::new(alloc);
-    acts.extend_from_slice(invs(draft, dir, class))?;
-    acts.push(act_of(action))?;
-    Ok(Some(HomeChoice {
+    acts.extend_from_slice(inv_acts(draft, dir, class))?;
+    acts.push(act_of_action(action))?;
+    Ok(Some(DirChoice {
         acts: Sequence::from(acts),
         next: next_by_ask(draft, row),
     }))
 }
 
-fn act_of(action: Action) -> DirAct
-    ensures { result ≡ home.acts_of action }
+fn act_of_action(action: Action) -> DirAct
+    ensures { result ≡ directory.act_of_action action }
 {
     match action {
         Action::Reply(reply) => DirAct::Reply(reply),
@@ -42,9 +42,9 @@ fn act_of(action: Action) -> DirAct
     }
 }
 
-/// Where there may be sharers, a write sends them invs.
-fn invs(draft: &Draft, dir: u8, class: ReqClass) -> &'static [DirAct]
-    ensures { result.now ≡ home.invs draft.now dir class }
+/// Where there may be sharers, a write sends them invalidations.
+fn inv_acts(draft: &Draft, dir: u8, class: ReqClass) -> &'static [DirAct]
+    ensures { result.now ≡ directory.inv_acts draft.now dir class }
 {
     let may_share = kind_is(DirKind::Shared, draft, dir) || kind_is(DirKind::Mixed, draft, dir);
     match class {
@@ -66,7 +66,7 @@ fn next_by_ask(draft: &Draft, row: &RowLine) -> DirDesc
 
 /// An owner's evict writes the word that it brings, if it does.
 fn evict_acts(who: Who) -> &'static [DirAct]
-    ensures { result.now ≡ home.evict_acts who }
+    ensures { result.now ≡ directory.evict_acts who }
 {
     match who {
         Who::Owner => &[DirAct::Write, DirAct::PutAck],
@@ -76,7 +76,7 @@ fn evict_acts(who: Who) -> &'static [DirAct]
 
 /// The row of a case that is due.
 fn due_row(draft: &Draft, dir: u8, at: DirCase) -> Option<&RowLine>
-    ensures { option_copied result ≡ home.due_row draft.now dir at }
+    ensures { option_copied result ≡ directory.due_row draft.now dir at }
 {
     if is_due_case(draft, dir, at) {
         dir_row(draft, dir, at)
@@ -85,14 +85,8 @@ fn due_row(draft: &Draft, dir: u8, at: DirCase) -> Option<&RowLine>
     }
 }
 
-fn at_ask(
-    alloc: Global,
-    draft: &Draft,
-    dir: u8,
-    class: ReqClass,
-    who: Who,
-) -> HomeChosen
-    ensures { IfOk result (λ choice. choice ≡ home.in_state draft.now dir (DirInput.Ask class who)) }
+fn at_ask(alloc: Global, draft: &Draft, dir: u8, class: ReqClass, who: Who) -> DirChosen
+    ensures { IfOk result (λ choice. choice ≡ directory.in_state draft.now dir (DirInput.Ask class who)) }
 {
     let Some(row) = due_row(draft, dir, DirCase::Ask(class, who)) else {
         return Ok(None);
@@ -103,14 +97,8 @@ fn at_ask(
     }
 }
 
-fn at_evict(
-    alloc: Global,
-    draft: &Draft,
-    dir: u8,
-    who: Who,
-    left: Left,
-) -> HomeChosen
-    ensures { IfOk result (λ choice. choice ≡ home.in_state draft.now dir (DirInput.Evict who left)) }
+fn at_evict(alloc: Global, draft: &Draft, dir: u8, who: Who, left: Left) -> DirChosen
+    ensures { IfOk result (λ choice. choice ≡ directory.in_state draft.now dir (DirInput.Evict who left)) }
 {
     match due_row(draft, dir, DirCase::Evict(who, left)) {
         Some(row) => step(alloc, evict_acts(who), DirDesc::State(row.next)),
@@ -118,13 +106,8 @@ fn at_evict(
     }
 }
 
-fn in_state(
-    alloc: Global,
-    draft: &Draft,
-    dir: u8,
-    input: DirInput,
-) -> HomeChosen
-    ensures { IfOk result (λ choice. choice ≡ home.in_state draft.now dir input) }
+fn in_state(alloc: Global, draft: &Draft, dir: u8, input: DirInput) -> DirChosen
+    ensures { IfOk result (λ choice. choice ≡ directory.in_state draft.now dir input) }
 {
     match input {
         DirInput::Ask(class, who) => at_ask(alloc, draft, dir, class, who),
@@ -135,8 +118,8 @@ fn in_state(
 }
 
 /// While it is busy each request waits, and the data ends that.
-fn when_busy(alloc: Global, dir: u8, input: DirInput) -> HomeChosen
-    ensures { IfOk result (λ choice. choice ≡ home.when_busy dir input) }
+fn when_busy(alloc: Global, dir: u8, input: DirInput) -> DirChosen
+    ensures { IfOk result (λ choice. choice ≡ directory.when_busy dir input) }
 {
     let (act, next) = match input {
         DirInput::BusyAsk(ReqClass::Read | ReqClass::Write) | DirInput::BusyEvict => {
@@ -150,12 +133,13 @@ fn when_busy(alloc: Global, dir: u8, input: DirInput) -> HomeChosen
 
 impl State for DirDesc {
     type Input = DirInput;
+
     type Act = DirAct;
 
-    ghost choice = { λ d m s i. home.home_choice d s i };
+    ghost choice = { λ d m s i. directory.dir_choice d s i };
 
     /// What the controller does in a state at an input, if that may come.
-    fn choose(self, alloc: Global, protocol: &Protocol, _mode: Mode, input: DirInput) -> HomeChosen {
+    fn choose(self, alloc: Global, protocol: &Protocol, _mode: Mode, input: DirInput) -> DirChosen {
         let draft = protocol.draft();
         match self {
             DirDesc::State(dir) => in_state(alloc, draft, dir, input),

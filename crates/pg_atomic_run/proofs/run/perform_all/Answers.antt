@@ -7,7 +7,7 @@ use Rattle.pg_atomic.specs.Steps.{IsReached}
 use Rattle.pg_atomic.specs.Scripts.{op_steps, steps_of}
 use Rattle.pg_atomic_run.specs.declared.block.Block.{Block}
 use Rattle.pg_atomic_run.specs.Histories.{ops_on}
-use Rattle.pg_atomic_run.specs.Blocks.{after_op, AreAt}
+use Rattle.pg_atomic_run.specs.Blocks.{block_after_op, AreStepsSoFar}
 use Rattle.pg_atomic_run.proofs.Stands.{at_block, rest_inside, at_after, reached_after, length_steps}
 use Rattle.pg_atomic_run.proofs.run.perform_all.Goals as goal
 
@@ -34,16 +34,16 @@ loop-op-preserved c =
     (subst (λ (ls : List ScriptOp). list_all (is_inside c.args.cores (length c.args.blocks.now.items)) ls ≡ true) c.in-Some.ensures.cases.0 c.loop-op.invariant.1)
     c.index_mut.ensures.value in
     let r = c.loop-op.invariant.2 o.block x here in
-    let leads : c.perform.new.self ≡ after_op d o.core o.op x = c.in_ok-perform.ensures.step in (
+    let leads : c.perform.new.self ≡ block_after_op d o.core o.op x = c.in_ok-perform.ensures.step in (
       length-set c.loop-op.blocks.items o.block c.perform.new.self ∙ c.loop-op.invariant.0,
       rest_inside c.args.cores (length c.args.blocks.now.items) o c.in-Some.rest.now
           (subst (λ (ls : List ScriptOp). list_all (is_inside c.args.cores (length c.args.blocks.now.items)) ls ≡ true) c.in-Some.ensures.cases.0 c.loop-op.invariant.1),
       reached_after d c.args.cores c.loop-op.blocks.items o.block c.perform.new.self c.loop-op.invariant.2
           (subst (λ (n : ℕ). IsReached d n c.perform.new.self.atomic) r.1 c.in_ok-perform.ensures.reached)
           (ap (λ (z : Block). length z.atomic.states) leads ∙ length_steps d x.atomic (op_steps d x.atomic o.core o.op) ∙ r.1),
-      λ all at. subst (λ (y : Block). AreAt d all c.in-Some.rest.now (slice_set c.loop-op.blocks.items o.block y)) (sym leads)
+      λ all at. subst (λ (y : Block). AreStepsSoFar d all c.in-Some.rest.now (slice_set c.loop-op.blocks.items o.block y)) (sym leads)
           (at_after d all o c.in-Some.rest.now c.loop-op.blocks.items x
-          (subst (λ (ls : List ScriptOp). AreAt d all ls c.loop-op.blocks.items) c.in-Some.ensures.cases.0 (c.loop-op.invariant.3 all at)) here),
+          (subst (λ (ls : List ScriptOp). AreStepsSoFar d all ls c.loop-op.blocks.items) c.in-Some.ensures.cases.0 (c.loop-op.invariant.3 all at)) here),
     )
 
 none_left : (ls : List ScriptOp) → length ls ≡ 0 → ls ≡ []

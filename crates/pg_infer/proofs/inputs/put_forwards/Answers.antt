@@ -2,7 +2,7 @@ use Rattle.std.proofs.Common.{◌<◌, length, arith}
 use Rattle.std.specs.Prelude.{slice_index_or}
 use Rattle.pg_perm.specs.Classes.{is_forward}
 use Rattle.pg_table.specs.declared.cache.Input.TheVariants.{Forward}
-use Rattle.pg_infer.proofs.Ranges.{grown}
+use Rattle.pg_infer.proofs.Ranges.{append_grown}
 use Rattle.pg_infer.proofs.Messages.{map_more, message_at}
 use Rattle.pg_infer.proofs.inputs.put_forwards.Goals as goal
 
@@ -12,5 +12,5 @@ loop-number-preserved c =
     let n = c.loop-number.number in
     let m = slice_index_or ms c.from.result c.index-messages-from.result in
     let below : n < length ms = omega (arith, c.loop-number-test.true) in
-    grown _ _ _ _ _ _ c.in_ok-put_forward.ensures c.loop-number.invariant
+    append_grown _ _ _ _ _ _ c.in_ok-put_forward.ensures c.loop-number.invariant
     (map_more (λ f. Forward f) is_forward n ms m (message_at ms c.from.result n c.index-messages-from.result c.from.ensures below))

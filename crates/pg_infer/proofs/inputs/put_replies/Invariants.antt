@@ -2,7 +2,7 @@ use Rattle.std.proofs.Common.{◌≡◌, [], ◌∷◌, ◌++◌, take}
 use Rattle.std.specs.List.{flat_map}
 use Rattle.pg_perm.specs.Classes.{is_reply}
 use Rattle.pg_table.specs.declared.cache.Input.TheVariants.{DataAll, DataPart}
-use Rattle.pg_table.specs.Generated.{messages_from}
+use Rattle.pg_table.specs.GeneratedStates.{messages_from}
 use Rattle.pg_infer.proofs.inputs.put_replies.Given as goal
 
 abbrev pub invariant-loop-number : goal.invariant-loop-number

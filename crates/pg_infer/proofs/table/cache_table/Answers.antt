@@ -5,8 +5,8 @@ use Rattle.pg_table.specs.declared.cache.Input.{Input}
 use Rattle.pg_table.specs.Controllers.{table_by}
 use Rattle.pg_table.specs.Descriptors.{descs}
 use Rattle.pg_table.specs.Choices.{choices}
-use Rattle.pg_table.specs.Generated.{inputs, chosen}
-use Rattle.pg_table.specs.Tables.{TableState, same_desc, home_table}
+use Rattle.pg_table.specs.GeneratedStates.{inputs, choice_of_mode}
+use Rattle.pg_table.specs.Tables.{TableState, same_desc, dir_table}
 use Rattle.pg_table.specs.Sound.{IsSound}
 use Rattle.pg_table.proofs.Mixed.{generated_is_sound}
 use Rattle.pg_infer.proofs.Nexts.{cache_leads}
@@ -23,11 +23,11 @@ returns-clause-exact c =
     let of = c.as_slice.ensures.value ∙ c.in_ok-states.ensures in
     let met : c.as_slice-2.result.now ≡ inputs d = c.as_slice-2.ensures.value ∙ c.in_ok-inputs.ensures ∙ ap inputs c.draft.ensures.exact in
     IfOk-weaker c.table_of.result _ _
-    (λ x e. e ∙ ap (λ (is : List Input). table_by same_desc (λ s i. chosen m (choices d s i)) is c.as_slice.result.now) met
-    ∙ ap (λ (ss : List Desc). table_by same_desc (λ s i. chosen m (choices d s i)) (inputs d) ss) of) c.table_of.ensures
+    (λ x e. e ∙ ap (λ (is : List Input). table_by same_desc (λ s i. choice_of_mode m (choices d s i)) is c.as_slice.result.now) met
+    ∙ ap (λ (ss : List Desc). table_by same_desc (λ s i. choice_of_mode m (choices d s i)) (inputs d) ss) of) c.table_of.ensures
 
 pub returns-clause-sound : goal.returns-clause-sound
 returns-clause-sound c =
     let d = c.args.protocol.now in
     IfOk-weaker c.table_of.result _ _
-    (λ x e. subst (λ (t : List TableState). IsSound d t (home_table d)) (sym e) (generated_is_sound d c.args.mode c.draft.ensures.well_formed c.draft.ensures.shaped)) (returns-clause-exact c)
+    (λ x e. subst (λ (t : List TableState). IsSound d t (dir_table d)) (sym e) (generated_is_sound d c.args.mode c.draft.ensures.well_formed c.draft.ensures.shaped)) (returns-clause-exact c)

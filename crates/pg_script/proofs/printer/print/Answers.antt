@@ -4,14 +4,14 @@ use Rattle.pg_lines.specs.Lines.{text_of}
 use Rattle.pg_script.specs.declared.script.ScriptOp.{ScriptOp}
 use Rattle.pg_script.specs.declared.statement.Statement.TheVariants.{Cores, Blocks}
 use Rattle.pg_script.specs.Forms.{spelling}
-use Rattle.pg_script.specs.Printing.{op_line_of, printed}
+use Rattle.pg_script.specs.Printing.{op_line_of, script_text}
 use Rattle.pg_script.specs.Texts.{reading}
 use Rattle.pg_script.proofs.Joining.{parts_put}
 use Rattle.pg_script.proofs.Printed.{printed_reads}
 use Rattle.pg_script.proofs.Short.{bytes_short}
 use Rattle.pg_script.proofs.printer.print.Goals as goal
 
-written : (c : goal.After-into_bytes) → c.into_bytes.result.items ≡ printed c.args.script.now
+written : (c : goal.After-into_bytes) → c.into_bytes.result.items ≡ script_text c.args.script.now
 written c =
     ap (λ v. v.items) c.into_bytes.ensures.value
     ∙ parts_put c.args.script.now _ _ _ _ c.new-text.ensures.bytes

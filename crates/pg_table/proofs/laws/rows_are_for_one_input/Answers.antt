@@ -1,4 +1,4 @@
-use Rattle.pg_table.specs.Generated.{rows_of}
+use Rattle.pg_table.specs.GeneratedStates.{rows_of}
 use Rattle.pg_table.proofs.RowsFor.{rows_for_input, row_single}
 use Rattle.pg_table.proofs.laws.rows_are_for_one_input.Goals as goal
 

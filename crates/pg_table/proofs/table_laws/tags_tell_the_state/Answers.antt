@@ -1,8 +1,8 @@
-use Rattle.pg_table.proofs.Tags.{tells, keep_stays, later_due, due_later_plain, due_later_kept}
+use Rattle.pg_table.proofs.Tags.{tag_tells_take_row, keep_stays, later_due, due_later_plain, due_later_kept}
 use Rattle.pg_table.proofs.table_laws.tags_tell_the_state.Goals as goal
 
 pub returns-clause-leads : goal.returns-clause-leads
-returns-clause-leads c = tells
+returns-clause-leads c = tag_tells_take_row
 
 pub returns-clause-stays : goal.returns-clause-stays
 returns-clause-stays c = keep_stays

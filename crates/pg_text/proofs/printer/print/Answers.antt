@@ -3,12 +3,12 @@ use Rattle.std.specs.String.{string_bytes}
 use Rattle.pg_lines.specs.Lines.{line_text}
 use Rattle.pg_forms.specs.declared.line.Line.{Line}
 use Rattle.pg_forms.specs.declared.line.Line.TheVariants.{Protocol, End}
-use Rattle.pg_text.specs.Printing.{printed, cache_line_of, dir_line_of, message_line_of, core_line_of, take_line_of, row_line_of}
+use Rattle.pg_text.specs.Printing.{draft_text, cache_line_of, dir_line_of, message_line_of, core_line_of, take_line_of, row_line_of}
 use Rattle.pg_text.proofs.Joining.{lines_put}
 use Rattle.pg_text.proofs.Printed.{bytes_read, bytes_short}
 use Rattle.pg_text.proofs.printer.print.Goals as goal
 
-written : (c : goal.After-into_bytes) → c.into_bytes.result.items ≡ printed c.args.draft.now
+written : (c : goal.After-into_bytes) → c.into_bytes.result.items ≡ draft_text c.args.draft.now
 written c =
     let d = c.args.draft.now in
     let head : List Line = Protocol d.name ∷ [] in
@@ -28,7 +28,7 @@ written c =
     let at_cores = lines_put (core_line_of d) d.cores messages _ _ at_messages c.in_ok-put_lines-4.ensures in
     let at_takes = lines_put (take_line_of d) d.takes cores _ _ at_cores c.in_ok-put_lines-5.ensures in
     let at_rows = lines_put (row_line_of d) d.rows takes _ _ at_takes c.in_ok-put_lines-6.ensures in
-    let whole : string_bytes c.put_line-2.new.text ≡ printed d = lines_put (λ (l : Line). l) (End ∷ []) rows _ _ at_rows c.in_ok-put_line-2.ensures in
+    let whole : string_bytes c.put_line-2.new.text ≡ draft_text d = lines_put (λ (l : Line). l) (End ∷ []) rows _ _ at_rows c.in_ok-put_line-2.ensures in
     ap (λ v. v.items) c.into_bytes.ensures.value ∙ whole
 
 pub returns-clause-exact : goal.returns-clause-exact

@@ -1,5 +1,0 @@
-use Rattle.pg_standing.proofs.CoreBits.{cores_of-zero}
-use Rattle.pg_standing.proofs.core_set.CoreSet.clear.Goals as goal
-
-pub returns : goal.returns
-returns c = cores_of-zero
