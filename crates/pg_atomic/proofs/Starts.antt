@@ -9,7 +9,7 @@ use Rattle.pg_terms.specs.Terms.{out}
 use Rattle.pg_terms.specs.Due.{same_kind}
 use Rattle.pg_shape.specs.Shaped.{IsShaped}
 use Rattle.pg_shape.proofs.Searches.{map_or_get, any_at, position_none, not_both}
-use Rattle.pg_directory.specs.DirEntries.{DirEntry, initial_entry}
+use Rattle.pg_directory.specs.DirEntries.{initial_entry}
 use Rattle.pg_atomic.specs.States.{State, out_state, initial_state}
 
 abbrev is_idle : DirLine → Bool

@@ -17,7 +17,7 @@ use Rattle.pg_perm.specs.declared.draft.CacheLine.{CacheLine}
 use Rattle.pg_perm.specs.declared.draft.DirLine.{DirLine}
 use Rattle.pg_perm.specs.declared.draft.MsgLine.{MsgLine}
 use Rattle.pg_perm.specs.declared.fault.Rule.TheVariants.{S1, S2, S3, S4, S6}
-use Rattle.pg_terms.specs.Terms.{is_out, is_shared, is_owner, is_none_perm, is_read_perm, is_write_perm, same_forward, is_forward_of, is_write_owner, is_read_owner, cache_is, out, shared, forward_of, has_class, lists_state}
+use Rattle.pg_terms.specs.Terms.{is_out, is_shared, is_owner, is_none_perm, is_read_perm, is_write_perm, is_forward_of, is_write_owner, is_read_owner, cache_is, out, shared, forward_of, has_class, lists_state}
 use Rattle.pg_terms.specs.Terms as terms
 use Rattle.pg_terms.specs.Due.{same_kind, kind_is}
 use Rattle.pg_terms.proofs.Same.{forward_equal}

@@ -1,6 +1,6 @@
 -- Tables of a cache controller that let some later forwards wait and take others at once.
 use Rattle.std.specs.Prelude.{◌≡◌, true, List, map, Some}
-use Rattle.std.specs.List.{flat_map, IsDistinct}
+use Rattle.std.specs.List.{IsDistinct}
 use Rattle.pg_perm.specs.declared.kinds.Mode.{Mode}
 use Rattle.pg_perm.specs.declared.kinds.Mode.TheVariants as mode
 use Rattle.pg_perm.specs.declared.draft.Draft.{Draft}

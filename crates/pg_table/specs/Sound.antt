@@ -1,8 +1,7 @@
 -- Sound tables: at each input that may come a state has one row, which does what the protocol allows there and leads to a state of the table.
 -- Which forwards wait and which are taken may differ from row to row. Whatever is said of a protocol's controllers holds of each sound table.
-use Rattle.std.specs.Prelude.{ℕ, ◌≡◌, Bool, true, List, [], ◌∷◌, map, filter, Option, Some, slice_get}
-use Rattle.std.specs.List.{list_any, IsDistinct}
-use Rattle.std.specs.Option.{option_map}
+use Rattle.std.specs.Prelude.{ℕ, ◌≡◌, Bool, true, List, [], ◌∷◌, map, Some, slice_get}
+use Rattle.std.specs.List.{IsDistinct}
 use Rattle.pg_perm.specs.declared.kinds.Mode.TheVariants as mode
 use Rattle.pg_perm.specs.declared.draft.Draft.{Draft}
 use Rattle.pg_table.specs.declared.cache.Desc.{Desc}

@@ -3,7 +3,6 @@ use Rattle.std.proofs.lemmas.Result.{IfOk-weaker}
 use Rattle.pg_table.specs.declared.cache.Desc.{Desc}
 use Rattle.pg_table.specs.declared.cache.Input.{Input}
 use Rattle.pg_table.specs.Controllers.{table_by}
-use Rattle.pg_table.specs.Descriptors.{descs}
 use Rattle.pg_table.specs.Choices.{choices}
 use Rattle.pg_table.specs.GeneratedStates.{inputs, choice_of_mode}
 use Rattle.pg_table.specs.Tables.{TableState, same_desc, dir_table}

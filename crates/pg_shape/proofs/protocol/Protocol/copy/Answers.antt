@@ -1,4 +1,4 @@
-use Rattle.std.proofs.Common.{◌≡◌, sym, subst, ◌∙◌}
+use Rattle.std.proofs.Common.{sym, subst, ◌∙◌}
 use Rattle.pg_perm.proofs.Clones.{draft_same}
 use Rattle.pg_shape.specs.Shaped.{IsProtocol}
 use Rattle.pg_shape.proofs.protocol.Protocol.copy.Goals as goal
