@@ -9,7 +9,7 @@ use Rattle.pg_terms.specs.Terms.{out}
 use Rattle.pg_terms.specs.Due.{same_kind}
 use Rattle.pg_shape.specs.Shaped.{IsShaped}
 use Rattle.pg_shape.proofs.Searches.{map_or_get, any_at, position_none, not_both}
-use Rattle.pg_directory.specs.DirEntries.{initial_entry}
+use Rattle.pg_directory.specs.DirEntries.{DirEntry, initial_entry}
 use Rattle.pg_atomic.specs.States.{State, out_state, initial_state}
 
 abbrev is_idle : DirLine → Bool
@@ -28,5 +28,5 @@ pub initial_state_of_parts : (d : Draft) (n o i : ℕ) (xs cores : List ℕ) →
 initial_state_of_parts d n o i xs cores first states none idle =
     let each : xs ≡ replicate n (out_state d) = states ∙ ap (λ x. replicate n (unwrap_or x 0)) (sym first) in
     ap (λ (ys : List ℕ). record { states = ys; entry = record { dir = i; owner = None; sharers = cores }; word = 0 }) each
-    ∙ ap (λ (s : Standing). record { states = replicate n (out_state d); entry = s; word = 0 })
+    ∙ ap (λ (s : DirEntry). record { states = replicate n (out_state d); entry = s; word = 0 })
     (ap (λ (j : ℕ). record { dir = j; owner = None; sharers = cores }) idle ∙ ap (λ (cs : List ℕ). record (initial_entry d) { sharers = cs }) none)

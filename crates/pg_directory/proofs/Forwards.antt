@@ -105,7 +105,7 @@ share_applies d s core c f x r shape owns at row does class =
     let by = by_share d r f true (action_forwards f r.form does) class in
     let knows = after_share_is d r core s by (shared_not_owned d r.next next) in
     let among = owner_joined c core s.owner s.sharers (is_then_some s.owner c owns) in
-    subst (λ (s : Standing). Applies d s c f x) (sym knows) (t, take, sharer_fits d (shared_with r.next core s) c t.next refl among leads, shared_no_writer d t.next leads)
+    subst (λ (s : DirEntry). Applies d s c f x) (sym knows) (t, take, sharer_fits d (shared_with r.next core s) c t.next refl among leads, shared_no_writer d t.next leads)
 
 -- a keep applies, and leaves an owner
 keep_applies : (d : Draft) (s : DirEntry) (core c f x : ℕ) (r : RowLine) → IsShaped d → is s.owner c ≡ true → lists d s.dir x ≡ true
@@ -118,7 +118,7 @@ keep_applies d s core c f x r shape owns at row does class =
     let by = by_share d r f false (action_forwards f r.form does) (keep_no_share d f class) in
     let knows = after_joined_is d r core s by (mixed_not_owned d r.next next) in
     let listed = lists_kept x t.next at (keep_of-take_row d shape.forwards f x t class take) in
-    subst (λ (s : Standing). Applies d s c f x) (sym knows) (t, take, owner_fits d (joined_by r.next core s) c t.next owns listed, reader_no_writer d t.next reader)
+    subst (λ (s : DirEntry). Applies d s c f x) (sym knows) (t, take, owner_fits d (joined_by r.next core s) c t.next owns listed, reader_no_writer d t.next reader)
 
 -- a drop applies, and leaves nothing
 drop_applies : (d : Draft) (s : DirEntry) (core c f x : ℕ) (r : RowLine) → IsShaped d → (core == c) ≡ false → s.sharers ≡ [] → lists d s.dir x ≡ true
@@ -131,7 +131,7 @@ drop_applies d s core c f x r shape apart alone at row does class =
     let by = by_share d r f false (action_forwards f r.form does) (drop_no_share d f class) in
     let knows = after_owned_is d r core s by next in
     let none : is_among s.sharers c ≡ false = ap (λ (xs : List ℕ). is_among xs c) alone in
-    subst (λ (s : Standing). Applies d s c f x) (sym knows) (t, take, other_fits d (owned_by r.next core s) c t.next apart none leads, out_no_writer d t.next leads)
+    subst (λ (s : DirEntry). Applies d s c f x) (sym knows) (t, take, other_fits d (owned_by r.next core s) c t.next apart none leads, out_no_writer d t.next leads)
 
 write_drop_applies : (d : Draft) (s : DirEntry) (core c f x : ℕ) (r : RowLine) (w : Who) → IsShaped d → (core == c) ≡ false → lists d s.dir x ≡ true
     → dir_row d s.dir (case.Ask Write w) ≡ Some r → action_in r.form ≡ Some (action.Forward f) → has_class Drop d f ≡ true
@@ -174,5 +174,5 @@ pub applies : (d : Draft) (n : ℕ) (s : DirEntry) (q : Request) → IsWellForme
     → (c f x : ℕ) → forward_sent d s q c ≡ Some f → fits d s c x ≡ true → Applies d (entry_after d s q) c f x
 applies d n s q well shape sound below legal c f x sends fit =
     let (r, row, apart, what) = sent_has_row d s q c f sends in
-    subst (λ (s : Standing). Applies d s c f x) (sym (after_is d s q r row))
+    subst (λ (s : DirEntry). Applies d s c f x) (sym (after_is d s q r row))
     (row_applies d n s q.core q.event shape sound legal c f x r row apart fit what)

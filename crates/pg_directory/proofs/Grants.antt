@@ -149,12 +149,12 @@ load_by_memory d s core x m r shape legal fit row does = at final_state.0 final_
         → EndsGranted d (entry_after_row d r Load core s) core Load x (reply.Reply m)
     at t ends (inl (next, e)) =
         let by = by_nothing d r (reply_forwards_nothing m r.form does) in
-        subst (λ (s : Standing). EndsGranted d s core Load x (reply.Reply m)) (sym (after_joined_is d r core s by (shared_not_owned d r.next next)))
+        subst (λ (s : DirEntry). EndsGranted d s core Load x (reply.Reply m)) (sym (after_joined_is d r core s by (shared_not_owned d r.next next)))
         (ends_shared d (joined_by r.next core s) core x t (reply.Reply m) shape (holds_as_who s core Other legal).0 (among_with_same core s.sharers)
         (sym (final_is d Load s.dir x m Other (λ e. absurd (cc e)) fit) ∙ ends) e)
     at t ends (inr (idle, next, listed, owner)) =
         let by = by_nothing d r (reply_forwards_nothing m r.form does) in
-        subst (λ (s : Standing). EndsGranted d s core Load x (reply.Reply m)) (sym (after_owned_is d r core s by next))
+        subst (λ (s : DirEntry). EndsGranted d s core Load x (reply.Reply m)) (sym (after_owned_is d r core s by next))
         (ends_owning d (owned_by r.next core s) core x t (reply.Reply m) shape (same_core core)
         (sym (final_is d Load s.dir x m Other (λ e. absurd (cc e)) fit) ∙ ends) listed owner)
 
@@ -172,18 +172,18 @@ load_by_owner d n s core f x y m r shape sound legal fit row does listed to =
     by_class t ends same (inl class) =
         let (next, finals) = shape.reads.share s.dir f r row does class in
         let by = by_share d r f true (action_forwards f r.form does) class in
-        subst (λ (s : Standing). EndsGranted d s core Load x (reply.Reply m)) (sym (after_share_is d r core s by (shared_not_owned d r.next next)))
+        subst (λ (s : DirEntry). EndsGranted d s core Load x (reply.Reply m)) (sym (after_share_is d r core s by (shared_not_owned d r.next next)))
         (ends_shared d (shared_with r.next core s) core x t (reply.Reply m) shape refl (among_with_same core (with_owner s.owner s.sharers)) same (finals y t listed ends))
     by_class t ends same (inr (inl class)) =
         let (next, kept, finals) = shape.reads.keep s.dir f r row does class in
         let by = by_share d r f false (action_forwards f r.form does) (keep_no_share d f class) in
-        subst (λ (s : Standing). EndsGranted d s core Load x (reply.Reply m)) (sym (after_joined_is d r core s by (mixed_not_owned d r.next next)))
+        subst (λ (s : DirEntry). EndsGranted d s core Load x (reply.Reply m)) (sym (after_joined_is d r core s by (mixed_not_owned d r.next next)))
         (ends_shared d (joined_by r.next core s) core x t (reply.Reply m) shape (holds_as_who s core Other legal).0 (among_with_same core s.sharers) same (finals y t listed ends))
     by_class t ends same (inr (inr (class, alone))) =
         let (next, finals) = shape.reads.drop s.dir f r row does class in
         let by = by_share d r f false (action_forwards f r.form does) (drop_no_share d f class) in
         let (at, owner) = finals y t listed ends in
-        subst (λ (s : Standing). EndsGranted d s core Load x (reply.Reply m)) (sym (after_owned_is d r core s by next))
+        subst (λ (s : DirEntry). EndsGranted d s core Load x (reply.Reply m)) (sym (after_owned_is d r core s by next))
         (ends_owning d (owned_by r.next core s) core x t (reply.Reply m) shape (same_core core) same at owner)
 
 -- Stores
@@ -276,5 +276,5 @@ pub granted : (d : Draft) (n : ℕ) (s : DirEntry) (q : Request) → IsWellForme
     → EndsGranted d (entry_after d s q) q.core q.event x name
 granted d n s q well shape sound below legal other x name fit lacks is_reply =
     let (r, a, row, does, by) = reply_has_row d s q name is_reply in
-    subst (λ (s : Standing). EndsGranted d s q.core q.event x name) (sym (after_is d s q r row))
+    subst (λ (s : DirEntry). EndsGranted d s q.core q.event x name) (sym (after_is d s q r row))
     (row_ends d n s q.core q.event shape sound legal other x r a name fit lacks row does by)

@@ -102,7 +102,7 @@ store_may_get d w m b =
 record Answers (d : Draft) (n f x : ℕ) : Type 0 where
   reply : ℕ
   to : reply_to d x f ≡ Some reply
-  brings : brings d n (action.Forward f) reply ≡ true
+  brings : brings_reply d n (action.Forward f) reply ≡ true
 
 answers : (d : Draft) → HasTakes d → (n f x : ℕ) (t : TakeLine) (m : ℕ) → take_row d x f ≡ Some t → t.reply ≡ Some m → lists d n x ≡ true → Answers d n f x
 answers d takes n f x t m e answer at =

@@ -293,7 +293,7 @@ above_read above n line next l (inl h) t goes_on =
     let first : is_out_of_order 1 None (kind_of l) ≡ false = sym (λ i. is_out_of_order (h.1 i) (h.0 i).kind (kind_of l)) ∙ t.in_place in
     let begins : with_line no_draft 1 l ≡ Some next.draft = sym (λ i. with_line (h.0 i).draft (h.1 i) l) ∙ t.declares in
     words_above next (kind_of l) t.is_kind ∙ ap (map spelling) (first_read l next.draft first begins) ∙ ap (λ (ws : List (List ℕ)). ws ∷ []) (sym spelled.0)
-    ∙ ap (λ (a : Above). read_above a ++ words_of line ∷ []) (sym h.0)
+    ∙ ap (λ (a : LinesAbove). read_above a ++ words_of line ∷ []) (sym h.0)
 above_read above n line next l (inr h) t goes_on =
     let spelled = line_of-some (words_of line) l t.is_line in
     let in_place : is_out_of_order n (Some h.0) (kind_of l) ≡ false = sym (ap (λ (o : Option Kind). is_out_of_order n o (kind_of l)) h.1) ∙ t.in_place in

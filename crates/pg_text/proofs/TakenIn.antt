@@ -41,8 +41,8 @@ line_taken_in above n line next l e same clean (Some d) w =
       new = rw e at (clean F3);
       room = t.1;
       short = t.0;
-      declares = w ∙ ap Some (sym (ap (λ (a : Above). a.draft) is_next));
-      is_kind = ap (λ (a : Above). a.kind) is_next;
+      declares = w ∙ ap Some (sym (ap (λ (a : LinesAbove). a.draft) is_next));
+      is_kind = ap (λ (a : LinesAbove). a.kind) is_next;
     }
 
 -- a line that was taken in is in a form, and breaks no rule
