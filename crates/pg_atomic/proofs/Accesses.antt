@@ -10,12 +10,12 @@ use Rattle.pg_perm.specs.declared.kinds.DirKind.TheVariants as kind
 use Rattle.pg_perm.specs.declared.draft.Draft.{Draft}
 use Rattle.pg_perm.specs.declared.draft.CoreForm.{CoreForm}
 use Rattle.pg_perm.specs.declared.draft.CoreForm.TheVariants.{Hit, Ask, Leave}
-use Rattle.pg_terms.specs.Terms.{is, is_read_owner, is_owner, is_read_perm, is_write_perm, lists}
+use Rattle.pg_terms.specs.Terms.{is, cache_is, is_read_owner, is_owner, is_read_perm, is_write_perm, lists}
 use Rattle.pg_terms.specs.Due.{kind_is}
 use Rattle.pg_perm.specs.declared.kinds.Perm.{Perm}
 use Rattle.pg_perm.specs.declared.kinds.Perm.TheVariants as perm
 use Rattle.pg_shape.specs.Shaped.{IsShaped}
-use Rattle.pg_shape.specs.CoreRules.{is_hit}
+use Rattle.pg_shape.specs.CoreRules.{is_hit, is_dirty_writer}
 use Rattle.pg_terms.specs.Rows.{allows, store_next}
 use Rattle.pg_directory.specs.DirEntries.{DirEntry, who, is_among}
 use Rattle.pg_directory.specs.Sound.{IsSound, fits, fits_as}
@@ -36,16 +36,23 @@ hit_leads x (Hit (Some t)) h = (t, refl)
 hit_leads x (Ask request pairs) h = absurd cc
 hit_leads x (Leave request) h = absurd cc
 
--- a store that hits leads a writer to a state that the same directory states list
-hit_listed : (d : Draft) → IsShaped d → (n x : ℕ) → lists d n x ≡ true → may d x Store ≡ true → lists d n (hit_next d x) ≡ true
-hit_listed d s n x at m =
+-- a store that hits leads a writer to a dirty one, in a state that the same directory states list
+hit_by_shape : (d : Draft) → IsShaped d → (n x : ℕ) → lists d n x ≡ true → may d x Store ≡ true
+    → (cache_is is_dirty_writer d (hit_next d x) ≡ true) × (lists d n (hit_next d x) ≡ true)
+hit_by_shape d s n x at m =
     let (c, line) = line_of d s n Owner x at in
     let (l, row) = s.cores.row x Store c line (λ e. absurd (cc e)) in
     let hits = s.cores.hits x Store c l line row (sym (cache_at (allows Store) d x c line) ∙ m) in
     let (t, next) = hit_leads x l.form hits in
     let leads : hit_next d x ≡ t = rw row (rw next refl) in
-    let same = (s.cores.store_hit x t l row (owner_writes d s n x at m) next).1 n in
-    ap (lists d n) leads ∙ same ∙ at
+    let gives = s.cores.store_hit x t l row (owner_writes d s n x at m) next in
+    (ap (cache_is is_dirty_writer d) leads ∙ gives.0, ap (lists d n) leads ∙ gives.1 n ∙ at)
+
+pub hit_is_dirty : (d : Draft) → IsShaped d → (a : State) (c : ℕ) → IsSafe d a → c < length a.states → may d (state_of a c) Store ≡ true
+    → cache_is is_dirty_writer d (hit_next d (state_of a c)) ≡ true
+hit_is_dirty d s a c safe inside m =
+    let (owns, at) = writer_owns d s a.entry.dir (who a.entry c) (state_of a c) (safe.fits c inside) m in
+    (hit_by_shape d s a.entry.dir (state_of a c) at m).0
 
 -- a store that hits leads from a safe state to one
 pub safe_store : (d : Draft) → IsShaped d → (a : State) (c v : ℕ) → IsSafe d a → c < length a.states → may d (state_of a c) Store ≡ true
@@ -56,7 +63,7 @@ safe_store d s a c v safe inside m =
     let (owns, at) = writer_owns d s a.entry.dir (who a.entry c) (state_of a c) (safe.fits c inside) m in
     record {
       entry = subst (λ (n : ℕ). IsSound d n a.entry) (sym same) safe.entry;
-      fits = λ e there. by y owns (hit_listed d s a.entry.dir (state_of a c) at m) e (omega (arith, there, same)) (e == c) refl;
+      fits = λ e there. by y owns (hit_by_shape d s a.entry.dir (state_of a c) at m).1 e (omega (arith, there, same)) (e == c) refl;
     }
   where
     by : (y : ℕ) → who a.entry c ≡ Owner → lists d a.entry.dir y ≡ true → (e : ℕ) → e < length a.states → (b : Bool) → (e == c) ≡ b

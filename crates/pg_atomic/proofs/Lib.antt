@@ -10,3 +10,7 @@ pub mod Runs
 pub mod Each
 pub mod Received
 pub mod Entries
+pub mod Parts
+pub mod CoresAfter
+pub mod WorkedRuns
+pub mod LegalRuns

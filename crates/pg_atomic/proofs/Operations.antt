@@ -33,7 +33,7 @@ after-append d a [] ys = refl
 after-append d a (x ∷ xs) ys = after-append d (after_step d a x) xs ys
 
 -- the requestor has the permission afterwards
-may_after : (d : Draft) → IsWellFormed d → IsShaped d → (a : State) (c : ℕ) (e : Event) → IsSafe d a → c < length a.states → needs_transaction d (state_of a c) e ≡ true
+pub may_after : (d : Draft) → IsWellFormed d → IsShaped d → (a : State) (c : ℕ) (e : Event) → IsSafe d a → c < length a.states → needs_transaction d (state_of a c) e ≡ true
     → (may d (requestor_end d a c e) e ≡ true) → may d (state_of (after_step d a (Txn c e)) c) e ≡ true
 may_after d whole s a c e safe inside need ends =
     let q : Request = record { core = c; event = e } in
@@ -46,7 +46,7 @@ may_after d whole s a c e safe inside need ends =
 inside_after : (d : Draft) (a : State) (c : ℕ) (e : Event) → c < length a.states → c < length (after_step d a (Txn c e)).states
 inside_after d a c e inside = omega (arith, inside, length-each_from (core_next d a (record { core = c; event = e })) 0 a.states)
 
-may_of : (d : Draft) (x : ℕ) (e : Event) → e ≢ event.Evict → cache_is (allows e) d x ≡ true → may d x e ≡ true
+pub may_of : (d : Draft) (x : ℕ) (e : Event) → e ≢ event.Evict → cache_is (allows e) d x ≡ true → may d x e ≡ true
 may_of d x event.Load asks h = h
 may_of d x event.Store asks h = h
 may_of d x event.Evict asks h = absurd (asks refl)

@@ -54,16 +54,17 @@ safe_steps d whole s a (x ∷ xs) safe allowed =
     let r = safe_steps d whole s (after_step d a x) xs p.0 allowed.1 in
     (r.0, r.1 ∙ p.1)
 
+-- what holds in each safe state
+pub safe_runs_safely : (d : Draft) (a : State) → IsWellFormed d → IsShaped d → IsSafe d a → RunsSafely d (length a.states) a
+safe_runs_safely d a whole s safe = record {
+  cores = refl;
+  safe = safe;
+  rows = λ q inside need. transaction_has_rows d s a q safe (handled_at d whole s a q safe inside need) inside need;
+  single_writer = single_writer d s a safe;
+}
+
 pub runs_safely : (d : Draft) (n : ℕ) (a : State) → IsWellFormed d → IsShaped d → IsReached d n a → RunsSafely d n a
 runs_safely d n a whole s (steps, run, leads) =
     let p = safe_steps d whole s (initial_state d n) steps (safe_initial_state d whole s n) run in
     let cores : length a.states ≡ n = ap (λ (b : State). length b.states) leads ∙ p.1 ∙ length-replicate n (out_state d) in
-    let safe : IsSafe d a = subst (IsSafe d) (sym leads) p.0 in
-    record {
-      cores = cores;
-      safe = safe;
-      rows = λ q inside need.
-          let below : q.core < length a.states = omega (arith, inside, cores) in
-          transaction_has_rows d s a q safe (handled_at d whole s a q safe below need) below need;
-      single_writer = single_writer d s a safe;
-    }
+    subst (λ (m : ℕ). RunsSafely d m a) cores (safe_runs_safely d a whole s (subst (IsSafe d) (sym leads) p.0))

@@ -90,7 +90,7 @@ to_owner d s n x f at due = by (owner_line d s n x at) (or_true _ _ due)
     by c (inr h) = middle (cache_is (λ c. is_owner c.role) d x) _ _ h
 
 -- a listed owner answers what is passed on with a reply
-answers : (d : Draft) → IsShaped d → (n x f : ℕ) → lists d n x ≡ true → is_due d x f ≡ true → (m : ℕ) × (reply_to d x f ≡ Some m)
+pub answers : (d : Draft) → IsShaped d → (n x f : ℕ) → lists d n x ≡ true → is_due d x f ≡ true → (m : ℕ) × (reply_to d x f ≡ Some m)
 answers d s n x f at due = by (s.takes.due x f due) (one_three _ _ _ (to_owner d s n x f at due))
   where
     from : (t : TakeLine) (m : ℕ) → take_row d x f ≡ Some t → t.reply ≡ Some m → reply_to d x f ≡ Some m
@@ -103,7 +103,7 @@ answers d s n x f at due = by (s.takes.due x f due) (one_three _ _ _ (to_owner d
     by (t, row) (inr (inr h)) = let p = (s.takes.drop x f t row h).0 in (p.0, from t p.0 row p.1)
 
 -- what a row passes on is due at a listed owner
-due_of : (d : Draft) → IsShaped d → (home : DirEntry) (q : Request) (x f : ℕ) → lists d home.dir x ≡ true → action_of d home q ≡ Some (action.Forward f)
+pub due_of : (d : Draft) → IsShaped d → (home : DirEntry) (q : Request) (x f : ℕ) → lists d home.dir x ≡ true → action_of d home q ≡ Some (action.Forward f)
     → is_due d x f ≡ true
 due_of d s home q x f at does = by (row_of d home q) refl
   where

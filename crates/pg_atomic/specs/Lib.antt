@@ -4,3 +4,5 @@ pub mod Steps
 pub mod Scripts
 pub mod Safety
 pub mod Accesses
+pub mod Stores
+pub mod Worked

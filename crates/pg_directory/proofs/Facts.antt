@@ -68,6 +68,9 @@ keep_no_share d f h = false_from_ne_true (has_class Share d f) (λ g. absurd (cc
 pub drop_no_share : (d : Draft) (f : ℕ) → has_class Drop d f ≡ true → has_class Share d f ≡ false
 drop_no_share d f h = false_from_ne_true (has_class Share d f) (λ g. absurd (cc (one_class d f Drop Share h g)))
 
+pub drop_no_keep : (d : Draft) (f : ℕ) → has_class Drop d f ≡ true → has_class Keep d f ≡ false
+drop_no_keep d f h = false_from_ne_true (has_class Keep d f) (λ g. absurd (cc (one_class d f Drop Keep h g)))
+
 -- the first forward of a class is of it
 pub first_has_class : (d : Draft) (class : FwdClass) (f : ℕ) → forward_of d class ≡ Some f → has_class class d f ≡ true
 first_has_class d class f e =

@@ -17,11 +17,12 @@ use Rattle.pg_terms.specs.declared.cases.DirCase.{DirCase}
 use Rattle.pg_terms.specs.declared.cases.DirCase.TheVariants as case
 use Rattle.pg_terms.specs.Terms.{is, is_write_owner, cache_is, shared, forward_of, has_class, lists, take_row, dir_row}
 use Rattle.pg_shape.specs.Shaped.{IsShaped}
+use Rattle.pg_terms.specs.Due.{is_due, forward_in}
 use Rattle.pg_terms.specs.Rows.{action_in}
 use Rattle.pg_shape.proofs.Searches.{not_both}
 use Rattle.pg_shape.proofs.Shaped.{is_then_some}
 use Rattle.pg_shape.proofs.Rows.{row_at}
-use Rattle.pg_directory.specs.DirEntries.{DirEntry, Request, is_among, who, row_of, entry_after_write, entry_after_row, entry_after}
+use Rattle.pg_directory.specs.DirEntries.{DirEntry, Request, is_among, who, case_of, row_of, entry_after_write, entry_after_row, entry_after}
 use Rattle.pg_directory.specs.Sends.{forward_sent}
 use Rattle.pg_directory.specs.Sound.{IsSound, IsLegal, IsLegalAs, fits_as, fits}
 use Rattle.pg_directory.specs.Requests.{action_of}
@@ -77,22 +78,41 @@ owner_listed d s c x h fit = subst (λ (w : Who). fits_as d s.dir w x ≡ true) 
 sharer_shares : (d : Draft) (s : DirEntry) (c x : ℕ) → is s.owner c ≡ false → is_among s.sharers c ≡ true → fits d s c x ≡ true → is (shared d) x ≡ true
 sharer_shares d s c x h g fit = subst (λ (w : Who). fits_as d s.dir w x ≡ true) (who_of_sharer s c h g) fit
 
+-- Where they are due
+
+-- an invalidation is due where the state of a sharer fits
+inv_due : (d : Draft) (n : ℕ) (s : DirEntry) (c f x : ℕ) → IsSound d n s → is_among s.sharers c ≡ true → forward_of d Inv ≡ Some f → fits d s c x ≡ true
+    → is_due d x f ≡ true
+inv_due d n s c f x sound among inv fit =
+    let shares = sharer_shares d s c x (sharer_no_owner d n s c sound among) among fit in
+    let first : is (forward_of d Inv) f ≡ true = ap (λ (o : Option ℕ). is o f) inv ∙ same_core f in
+    or_left _ _ (and_from (is (shared d) x) (is (forward_of d Inv) f) shares first)
+
+-- what a row passes on is due in each state that its directory state lists
+due_passed : (d : Draft) (n f x : ℕ) (a : DirCase) (r : RowLine) → IsShaped d → dir_row d n a ≡ Some r → forward_in r.form ≡ Some f → lists d n x ≡ true → is_due d x f ≡ true
+due_passed d n f x a r shape row passes at = let (k, get, dir, for) = row_at d n a r row in shape.takes.passed n x f k r get dir passes at
+
+-- a forward that a request sends is due in each state that fits
+pub forward_is_due : (d : Draft) (n : ℕ) (s : DirEntry) (q : Request) → IsShaped d → IsSound d n s → (c f x : ℕ) → forward_sent d s q c ≡ Some f → fits d s c x ≡ true
+    → is_due d x f ≡ true
+forward_is_due d n s q shape sound c f x sends fit = let (r, row, apart, what) = sent_has_row d s q c f sends in at r row what
+  where
+    at : (r : RowLine) → row_of d s q ≡ Some r → IsSentFor d s q.event c r f → is_due d x f ≡ true
+    at r row (inl inv) = inv_due d n s c f x sound inv.1 inv.2 fit
+    at r row (inr passes) = due_passed d s.dir f x (case_of s q) r shape row passes.1 (owner_listed d s c x passes.0 fit)
+
 -- an invalidation applies, and leaves nothing
 inv_applies : (d : Draft) (n : ℕ) (s : DirEntry) (core c f x : ℕ) (r : RowLine) → IsShaped d → IsSound d n s → (core == c) ≡ false
     → is_among s.sharers c ≡ true → forward_of d Inv ≡ Some f → fits d s c x ≡ true → Applies d (entry_after_write r core s) c f x
 inv_applies d n s core c f x r shape sound apart among inv fit =
-    let shares = sharer_shares d s c x (sharer_no_owner d n s c sound among) among fit in
-    let first : is (forward_of d Inv) f ≡ true = ap (λ (o : Option ℕ). is o f) inv ∙ same_core f in
-    let (t, row) = shape.takes.due x f (or_left _ _ (and_from (is (shared d) x) (is (forward_of d Inv) f) shares first)) in
+    let (t, row) = shape.takes.due x f (inv_due d n s c f x sound among inv fit) in
     let leads = (shape.takes.inv x f t row (first_has_class d Inv f inv)).1 in
     (t, row, other_fits d (entry_after_write r core s) c t.next apart refl leads, out_no_writer d t.next leads)
 
 -- a listed state takes what is passed on
 pub takes_passed : (d : Draft) (n f x : ℕ) (a : DirCase) (r : RowLine) → IsShaped d → dir_row d n a ≡ Some r → action_in r.form ≡ Some (action.Forward f)
     → lists d n x ≡ true → (t : TakeLine) × (take_row d x f ≡ Some t)
-takes_passed d n f x a r shape row does at =
-    let (k, get, dir, for) = row_at d n a r row in
-    shape.takes.due x f (shape.takes.passed n x f k r get dir (action_forwards f r.form does) at)
+takes_passed d n f x a r shape row does at = shape.takes.due x f (due_passed d n f x a r shape row (action_forwards f r.form does) at)
 
 -- a share applies, and leaves a sharer
 share_applies : (d : Draft) (s : DirEntry) (core c f x : ℕ) (r : RowLine) → IsShaped d → is s.owner c ≡ true → lists d s.dir x ≡ true

@@ -10,7 +10,7 @@ use Rattle.pg_directory.proofs.DueRows.{legal_request_has_row, stale_changes_not
 use Rattle.pg_directory.proofs.OfKind.{legal_request_has_kind}
 use Rattle.pg_directory.proofs.SoundAfter.{entry_after_is_sound}
 use Rattle.pg_directory.proofs.Untouched.{others_are_untouched, evict_leaves_nothing}
-use Rattle.pg_directory.proofs.Forwards.{passed_on_to_owner, applies}
+use Rattle.pg_directory.proofs.Forwards.{passed_on_to_owner, forward_is_due, applies}
 use Rattle.pg_directory.proofs.Answerers.{memory_answers_without_owner, counted}
 use Rattle.pg_directory.proofs.Grants.{replied, granted}
 
@@ -20,6 +20,7 @@ legal_request_is_handled d n s q w sh so low legal = record {
   sound = entry_after_is_sound d n s q w sh so low legal;
   row = legal_request_has_row d n s q w sh so low legal;
   untouched = others_are_untouched d n s q w sh so low legal;
+  due = forward_is_due d n s q sh so;
   applies = applies d n s q w sh so low legal;
   passed = passed_on_to_owner d n s q w sh so low legal;
   memory = memory_answers_without_owner d n s q w sh so low legal;

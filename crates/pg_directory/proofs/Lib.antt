@@ -17,3 +17,6 @@ pub mod Untouched
 pub mod Handled
 pub mod Marked
 pub mod CoreBits
+pub mod Receivers
+pub mod Lists
+pub mod OneKind

@@ -61,6 +61,12 @@ form_forward (form.Ask request w (action.Forward f)) g e = cc
 form_forward (form.Ask request w action.Count) g e = absurd cc
 form_forward (form.Evict w l) g e = absurd cc
 
+-- with an evict nothing is done
+evict_does : (d : Draft) (n : ℕ) (w : Who) (l : Left) (r : RowLine) → dir_row d n (case.Evict w l) ≡ Some r → action_in r.form ≡ None
+evict_does d n w l r e =
+    let (k, g, dir, is_for) = row_at d n (case.Evict w l) r e in
+    ap action_in (evict_form d r.form w l is_for)
+
 form_evict : (d : Draft) (n : ℕ) (w : Who) (l : Left) (r : RowLine) → dir_row d n (case.Evict w l) ≡ Some r → forward_in r.form ≡ None
 form_evict d n w l r e =
     let (k, g, dir, is_for) = row_at d n (case.Evict w l) r e in
@@ -71,6 +77,10 @@ entry_after-some d s q r e = ap (λ o. option_map_or (λ r. entry_after_row d r 
 
 pub forward_sent-some : (d : Draft) (s : DirEntry) (q : Request) (c : ℕ) (r : RowLine) → row_of d s q ≡ Some r → forward_sent d s q c ≡ forward_by_row d s q c r
 forward_sent-some d s q c r e = ap (λ o. option_and_then (forward_by_row d s q c) o) e
+
+-- what is done, by the row
+does_by_row : (d : Draft) (s : DirEntry) (q : Request) (r : RowLine) → row_of d s q ≡ Some r → option_and_then (λ r. action_in r.form) (row_of d s q) ≡ action_in r.form
+does_by_row d s q r e = ap (λ o. option_and_then (λ r. action_in r.form) o) e
 
 -- the row of a request, by what its core is
 pub row_as : (d : Draft) (s : DirEntry) (c : ℕ) (event : Event) (w : Who) (r : RowLine) → who s c ≡ w → row_of d s (record { core = c; event = event }) ≡ Some r
@@ -143,6 +153,8 @@ read_shared d s c m r e does is none leads = record {
   knows = load_after d s c r false false e (not_by_share d r (form_reply r.form m does)) (other_kind dirs.Shared dirs.Owned d r.next (λ h. cc) leads);
   sends = λ x ne. load_sent d s c r None e (form_reply r.form m does) x ne ∙ no_holder (who s x);
   known = (is, none, leads);
+  asks = refl;
+  does = (m, does_by_row d s (load c) r e ∙ does);
 }
 
 read_owned : (d : Draft) (s : DirEntry) (c m : ℕ) (r : RowLine) → row_of d s (load c) ≡ Some r → action_in r.form ≡ Some (action.Reply m) → s.owner ≡ None → s.sharers ≡ []
@@ -151,6 +163,8 @@ read_owned d s c m r e does none empty leads = record {
   knows = load_after d s c r false true e (not_by_share d r (form_reply r.form m does)) leads;
   sends = λ x ne. load_sent d s c r None e (form_reply r.form m does) x ne ∙ no_holder (who s x);
   known = (none, empty, leads);
+  asks = refl;
+  does = (m, does_by_row d s (load c) r e ∙ does);
 }
 
 -- a load that is passed on
@@ -160,6 +174,8 @@ read_share d s c f r e does is owns class leads = record {
   knows = load_after d s c r true false e (by_forward d r f (form_forward r.form f does) ∙ class) (other_kind dirs.Shared dirs.Owned d r.next (λ h. cc) leads);
   sends = λ x ne. load_sent d s c r (Some f) e (form_forward r.form f does) x ne;
   known = (is, owns, class, leads);
+  asks = refl;
+  does = does_by_row d s (load c) r e ∙ does;
 }
 
 read_keep : (d : Draft) (s : DirEntry) (c f : ℕ) (r : RowLine) → row_of d s (load c) ≡ Some r → action_in r.form ≡ Some (action.Forward f) → who s c ≡ Other → HasOwner s
@@ -169,6 +185,8 @@ read_keep d s c f r e does is owns class leads kept = record {
   knows = load_after d s c r false false e (by_forward d r f (form_forward r.form f does) ∙ no_share d f (inl class)) (other_kind dirs.Mixed dirs.Owned d r.next (λ h. cc) leads);
   sends = λ x ne. load_sent d s c r (Some f) e (form_forward r.form f does) x ne;
   known = (is, owns, class, leads, kept);
+  asks = refl;
+  does = does_by_row d s (load c) r e ∙ does;
 }
 
 read_drop : (d : Draft) (s : DirEntry) (c f : ℕ) (r : RowLine) → row_of d s (load c) ≡ Some r → action_in r.form ≡ Some (action.Forward f) → who s c ≡ Other → HasOwner s
@@ -177,6 +195,8 @@ read_drop d s c f r e does is owns empty class leads = record {
   knows = load_after d s c r false true e (by_forward d r f (form_forward r.form f does) ∙ no_share d f (inr class)) leads;
   sends = λ x ne. load_sent d s c r (Some f) e (form_forward r.form f does) x ne;
   known = (is, owns, empty, class, leads);
+  asks = refl;
+  does = does_by_row d s (load c) r e ∙ does;
 }
 
 load_kind : (d : Draft) (n : ℕ) (s : DirEntry) → IsShaped d → IsSound d n s → (c : ℕ) → who s c ≡ Other → (r : RowLine) → row_of d s (load c) ≡ Some r
@@ -243,6 +263,8 @@ write_reply d n s so c m r e does none leads = record {
   knows = entry_after-some d s (store c) r e;
   sends = λ x ne. store_sent d n s so c r None e (form_reply r.form m does) x ne;
   known = (none, leads);
+  asks = refl;
+  does = (m, does_by_row d s (store c) r e ∙ does);
 }
 
 write_drop : (d : Draft) (n : ℕ) (s : DirEntry) → IsSound d n s → (c f : ℕ) (r : RowLine) → row_of d s (store c) ≡ Some r → action_in r.form ≡ Some (action.Forward f)
@@ -251,6 +273,8 @@ write_drop d n s so c f r e does is owns class leads = record {
   knows = entry_after-some d s (store c) r e;
   sends = λ x ne. store_sent d n s so c r (Some f) e (form_forward r.form f does) x ne;
   known = (is, owns, class, leads);
+  asks = refl;
+  does = does_by_row d s (store c) r e ∙ does;
 }
 
 write_count : (d : Draft) (n : ℕ) (s : DirEntry) → IsSound d n s → (c : ℕ) (r : RowLine) → row_of d s (store c) ≡ Some r → action_in r.form ≡ Some action.Count
@@ -259,6 +283,8 @@ write_count d n s so c r e does is leads = record {
   knows = entry_after-some d s (store c) r e;
   sends = λ x ne. store_sent d n s so c r None e (form_count r.form does) x ne;
   known = (is, leads);
+  asks = refl;
+  does = does_by_row d s (store c) r e ∙ does;
 }
 
 -- a store of a core that isn't the owner
@@ -322,6 +348,8 @@ evict_stale d n s sh so c is =
       knows = ap (λ o. option_map_or (λ r. entry_after_row d r Evict c s) o s) none;
       sends = λ e ne. ap (λ o. option_and_then (forward_by_row d s (evict c) e) o) none;
       known = is;
+      asks = refl;
+      does = ap (λ o. option_and_then (λ r. action_in r.form) o) none;
     }
 
 evict_owner : (d : Draft) (n : ℕ) (s : DirEntry) → IsShaped d → IsSound d n s → (c : ℕ) → who s c ≡ Owner → (r : RowLine) → row_of d s (evict c) ≡ Some r
@@ -339,6 +367,8 @@ evict_owner d n s sh so c is r e =
         (λ h. sh.evicts.owner_last s.dir r (evict_row d s c Owner Last r is (ap left_of (rest ∙ h)) e)),
         (λ h. sh.evicts.owner_more s.dir r (evict_row d s c Owner More r is (ap left_of rest ∙ left_more s.sharers h) e)),
       );
+      asks = refl;
+      does = does_by_row d s (evict c) r e ∙ evict_does d s.dir Owner (left_of (without_core c s.sharers)) r (row_as d s c Evict Owner r is e);
     }
 
 evict_sharer : (d : Draft) (n : ℕ) (s : DirEntry) → IsShaped d → IsSound d n s → (c : ℕ) → who s c ≡ Sharer → (r : RowLine) → row_of d s (evict c) ≡ Some r
@@ -354,6 +384,8 @@ evict_sharer d n s sh so c is r e at = record {
     )),
     (λ owns. mixed (at_mixed owns at) (left_of (without_core c s.sharers)) refl),
   );
+  asks = refl;
+  does = does_by_row d s (evict c) r e ∙ evict_does d s.dir Sharer (left_of (without_core c s.sharers)) r (row_as d s c Evict Sharer r is e);
 }
   where
     legal_request_has_row : (l : Left) → left_of (without_core c s.sharers) ≡ l → dir_row d s.dir (case.Evict Sharer l) ≡ Some r

@@ -5,35 +5,19 @@ use Rattle.pg_perm.specs.declared.kinds.Who.{Who}
 use Rattle.pg_perm.specs.declared.kinds.Who.TheVariants.{Other, Sharer, Owner}
 use Rattle.pg_perm.specs.declared.draft.Draft.{Draft}
 use Rattle.pg_directory.specs.DirEntries.{DirEntry, Request, is_among, with_owner, who, entry_after}
-use Rattle.pg_directory.specs.Kinds.{Kind, Stale, Read_shared, Read_owned, Read_share, Read_keep, Read_drop, Write_reply, Write_drop, Write_count, Evict_owner, Evict_sharer, entry_after_kind, KindFacts, IsOfKind}
-use Rattle.pg_directory.proofs.Cores.{among_with_other, among_without_other, among_owner_other, among_owner_same}
-use Rattle.pg_directory.proofs.Holders.{owner_of_who, sharer_of_who, other_of_who, who_of_sharer, who_of_other, who_same, one_owner, none_owns}
+use Rattle.pg_directory.specs.Sound.{IsSound}
+use Rattle.pg_directory.specs.Kinds.{Kind, Stale, Read_shared, Read_owned, Read_share, Read_keep, Read_drop, Write_reply, Write_drop, Write_count, Evict_owner, Evict_sharer, requestor_by_kind, who_after_share, who_after_drop, other_by_kind, entry_after_kind, KindFacts, IsOfKind}
+use Rattle.pg_directory.proofs.Cores.{among_with_same, among_without_same, among_with_other, among_without_other, among_owner_other, among_owner_same}
+use Rattle.pg_directory.proofs.Holders.{owner_of_who, sharer_of_who, other_of_who, who_of_owner, who_of_sharer, who_of_other, who_same, one_owner, none_owns}
 
--- a share makes the owner a sharer
 abbrev pub shared_who : Who → Who
-shared_who Other = Other
-shared_who Sharer = Sharer
-shared_who Owner = Sharer
+shared_who w = who_after_share w
 
--- a drop leaves the owner nothing
 abbrev pub dropped_who : Who → Who
-dropped_who Other = Other
-dropped_who Sharer = Sharer
-dropped_who Owner = Other
+dropped_who w = who_after_drop w
 
--- what another core is afterwards, by what it was
 abbrev pub other_who : Kind → Who → Who
-other_who Stale w = w
-other_who Read_shared w = w
-other_who Read_owned w = w
-other_who (Read_share f) w = shared_who w
-other_who (Read_keep f) w = w
-other_who (Read_drop f) w = dropped_who w
-other_who Write_reply w = Other
-other_who (Write_drop f) w = Other
-other_who Write_count w = Other
-other_who Evict_owner w = w
-other_who Evict_sharer w = w
+other_who k w = other_by_kind k w
 
 after_share : (s : DirEntry) (f r next c : ℕ) → (r == c) ≡ false → (w : Who) → who s c ≡ w → who (entry_after_kind (Read_share f) r next s) c ≡ shared_who w
 after_share s f r next c ne Other e =
@@ -69,3 +53,25 @@ other_after_kind d s Evict_sharer r next c ne known = who_same s (entry_after_ki
 pub other_after : (d : Draft) (s : DirEntry) (q : Request) (k : Kind) (next c : ℕ) → IsOfKind d s q k next → (q.core == c) ≡ false
     → who (entry_after d s q) c ≡ other_who k (who s c)
 other_after d s q k next c of ne = ap (λ t. who t c) of.knows ∙ other_after_kind d s k q.core next c ne of.known
+
+-- what the requestor is afterwards
+requestor_after_kind : (d : Draft) (n : ℕ) (s : DirEntry) → IsSound d n s → (k : Kind) (r next : ℕ) → KindFacts d k r next s → who (entry_after_kind k r next s) r ≡ requestor_by_kind k
+requestor_after_kind d n s so Stale r next known = known
+requestor_after_kind d n s so Read_shared r next known = who_of_sharer (entry_after_kind Read_shared r next s) r (other_of_who s r known.0).0 (among_with_same r s.sharers)
+requestor_after_kind d n s so Read_owned r next known = who_of_owner (entry_after_kind Read_owned r next s) r refl
+requestor_after_kind d n s so (Read_share f) r next known =
+    who_of_sharer (entry_after_kind (Read_share f) r next s) r refl (among_with_same r (with_owner s.owner s.sharers))
+requestor_after_kind d n s so (Read_keep f) r next known =
+    who_of_sharer (entry_after_kind (Read_keep f) r next s) r (other_of_who s r known.0).0 (among_with_same r s.sharers)
+requestor_after_kind d n s so (Read_drop f) r next known = who_of_owner (entry_after_kind (Read_drop f) r next s) r refl
+requestor_after_kind d n s so Write_reply r next known = who_of_owner (entry_after_kind Write_reply r next s) r refl
+requestor_after_kind d n s so (Write_drop f) r next known = who_of_owner (entry_after_kind (Write_drop f) r next s) r refl
+requestor_after_kind d n s so Write_count r next known = who_of_owner (entry_after_kind Write_count r next s) r refl
+requestor_after_kind d n s so Evict_owner r next known =
+    who_of_other (entry_after_kind Evict_owner r next s) r refl (so.owner r (owner_of_who s r known.0)).1
+requestor_after_kind d n s so Evict_sharer r next known =
+    who_of_other (entry_after_kind Evict_sharer r next s) r (sharer_of_who s r known.0).0 (among_without_same r s.sharers)
+
+pub requestor_after : (d : Draft) (n : ℕ) (s : DirEntry) (q : Request) (k : Kind) (next : ℕ) → IsSound d n s → IsOfKind d s q k next
+    → who (entry_after d s q) q.core ≡ requestor_by_kind k
+requestor_after d n s q k next so of = ap (λ t. who t q.core) of.knows ∙ requestor_after_kind d n s so k q.core next of.known

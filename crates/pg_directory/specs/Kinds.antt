@@ -1,14 +1,20 @@
 -- The eleven kinds of request, by the row and by what the core is to the directory. What a directory knows afterwards, and what other cores are
 -- sent, goes by the kind alone, and no row is looked at again.
 use Rattle.std.specs.Prelude.{ℕ, ◌≡◌, ◌≢◌, ◌==◌, true, false, [], Option, Some, None}
+use Rattle.std.specs.Option.{option_and_then}
 use Rattle.pg_perm.specs.declared.kinds.DirKind.TheVariants as kind
+use Rattle.pg_perm.specs.declared.kinds.Event.{Event}
+use Rattle.pg_perm.specs.declared.kinds.Event.TheVariants.{Load, Store, Evict}
 use Rattle.pg_perm.specs.declared.kinds.Who.{Who}
 use Rattle.pg_perm.specs.declared.kinds.Who.TheVariants.{Other, Sharer, Owner}
 use Rattle.pg_perm.specs.declared.kinds.FwdClass.TheVariants.{Inv, Share, Keep, Drop}
 use Rattle.pg_perm.specs.declared.draft.Draft.{Draft}
+use Rattle.pg_perm.specs.declared.draft.Action.{Action}
+use Rattle.pg_perm.specs.declared.draft.Action.TheVariants.{Reply, Forward, Count}
 use Rattle.pg_terms.specs.Terms.{has_class, lists, forward_of, keep_of}
 use Rattle.pg_terms.specs.Due.{kind_is}
-use Rattle.pg_directory.specs.DirEntries.{DirEntry, Request, with_core, without_core, with_owner, who, entry_after}
+use Rattle.pg_terms.specs.Rows.{action_in}
+use Rattle.pg_directory.specs.DirEntries.{DirEntry, Request, with_core, without_core, with_owner, who, row_of, entry_after}
 use Rattle.pg_directory.specs.Sends.{forward_sent}
 
 pub data Kind : Type 0 where
@@ -43,6 +49,46 @@ entry_after_kind Write_count r next s = record { dir = next; owner = Some r; sha
 entry_after_kind Evict_owner r next s = record { dir = next; owner = None; sharers = s.sharers }
 entry_after_kind Evict_sharer r next s = record { dir = next; owner = s.owner; sharers = without_core r s.sharers }
 
+-- what the requestor is after a request of this kind
+abbrev pub requestor_by_kind : Kind → Who
+requestor_by_kind Stale = Other
+requestor_by_kind Read_shared = Sharer
+requestor_by_kind Read_owned = Owner
+requestor_by_kind (Read_share f) = Sharer
+requestor_by_kind (Read_keep f) = Sharer
+requestor_by_kind (Read_drop f) = Owner
+requestor_by_kind Write_reply = Owner
+requestor_by_kind (Write_drop f) = Owner
+requestor_by_kind Write_count = Owner
+requestor_by_kind Evict_owner = Other
+requestor_by_kind Evict_sharer = Other
+
+-- a share makes the owner a sharer
+abbrev pub who_after_share : Who → Who
+who_after_share Other = Other
+who_after_share Sharer = Sharer
+who_after_share Owner = Sharer
+
+-- a drop leaves the owner nothing
+abbrev pub who_after_drop : Who → Who
+who_after_drop Other = Other
+who_after_drop Sharer = Sharer
+who_after_drop Owner = Other
+
+-- what another core than the requestor is after a request of this kind, by what it was
+abbrev pub other_by_kind : Kind → Who → Who
+other_by_kind Stale w = w
+other_by_kind Read_shared w = w
+other_by_kind Read_owned w = w
+other_by_kind (Read_share f) w = who_after_share w
+other_by_kind (Read_keep f) w = w
+other_by_kind (Read_drop f) w = who_after_drop w
+other_by_kind Write_reply w = Other
+other_by_kind (Write_drop f) w = Other
+other_by_kind Write_count w = Other
+other_by_kind Evict_owner w = w
+other_by_kind Evict_sharer w = w
+
 -- to a sharer the first, to the owner the second
 abbrev pub to_holder : Who → Option ℕ → Option ℕ → Option ℕ
 to_holder Other one two = None
@@ -62,6 +108,37 @@ forward_by_kind d (Write_drop f) w = to_holder w (forward_of d Inv) (Some f)
 forward_by_kind d Write_count w = to_holder w (forward_of d Inv) None
 forward_by_kind d Evict_owner w = None
 forward_by_kind d Evict_sharer w = None
+
+-- for what the core asks by a request of this kind
+abbrev pub event_by_kind : Kind → Event
+event_by_kind Stale = Evict
+event_by_kind Read_shared = Load
+event_by_kind Read_owned = Load
+event_by_kind (Read_share f) = Load
+event_by_kind (Read_keep f) = Load
+event_by_kind (Read_drop f) = Load
+event_by_kind Write_reply = Store
+event_by_kind (Write_drop f) = Store
+event_by_kind Write_count = Store
+event_by_kind Evict_owner = Evict
+event_by_kind Evict_sharer = Evict
+
+abbrev pub IsByMemory : Option Action → Type 0
+IsByMemory does = (m : ℕ) × (does ≡ Some (Reply m))
+
+-- what the directory does with a request of this kind: memory replies, or it is passed on by the forward of the kind, or counted; with an evict nothing
+abbrev pub DoesByKind : Kind → Option Action → Type 0
+DoesByKind Stale does = does ≡ None
+DoesByKind Read_shared does = IsByMemory does
+DoesByKind Read_owned does = IsByMemory does
+DoesByKind (Read_share f) does = does ≡ Some (Forward f)
+DoesByKind (Read_keep f) does = does ≡ Some (Forward f)
+DoesByKind (Read_drop f) does = does ≡ Some (Forward f)
+DoesByKind Write_reply does = IsByMemory does
+DoesByKind (Write_drop f) does = does ≡ Some (Forward f)
+DoesByKind Write_count does = does ≡ Some Count
+DoesByKind Evict_owner does = does ≡ None
+DoesByKind Evict_sharer does = does ≡ None
 
 abbrev pub HasOwner : DirEntry → Type 0
 HasOwner s = (o : ℕ) × (s.owner ≡ Some o)
@@ -90,3 +167,5 @@ pub record IsOfKind (d : Draft) (s : DirEntry) (q : Request) (k : Kind) (next : 
   pub knows : entry_after d s q ≡ entry_after_kind k q.core next s
   pub sends : (c : ℕ) → (q.core == c) ≡ false → forward_sent d s q c ≡ forward_by_kind d k (who s c)
   pub known : KindFacts d k q.core next s
+  pub asks : q.event ≡ event_by_kind k
+  pub does : DoesByKind k (option_and_then (λ r. action_in r.form) (row_of d s q))

@@ -11,6 +11,7 @@ use Rattle.pg_perm.specs.declared.draft.ReplyName.TheVariants as reply
 use Rattle.pg_perm.specs.declared.draft.Action.{Action}
 use Rattle.pg_perm.specs.declared.draft.Action.TheVariants as action
 use Rattle.pg_terms.specs.Terms.{is_write_owner, cache_is, take_row, lists}
+use Rattle.pg_terms.specs.Due.{is_due}
 use Rattle.pg_terms.specs.Rows.{allows, reply_to, action_in, final_state}
 use Rattle.pg_directory.specs.DirEntries.{DirEntry, Request, who, row_of, entry_after}
 use Rattle.pg_directory.specs.Sends.{forward_sent}
@@ -42,7 +43,9 @@ pub record IsHandled (d : Draft) (n : ℕ) (s : DirEntry) (q : Request) : Type 0
   -- a core that it neither comes from nor sends a forward is to the directory what it was, and its state fits as it did
   pub untouched : (c : ℕ) → (q.core == c) ≡ false → forward_sent d s q c ≡ None
       → (who (entry_after d s q) c ≡ who s c) × ((x : ℕ) → fits d s c x ≡ true → fits d (entry_after d s q) c x ≡ true)
-  -- a forward that it sends has a take row in each state that fits; the next state fits afterwards, and may not write
+  -- a forward that it sends is due in each state that fits
+  pub due : (c f x : ℕ) → forward_sent d s q c ≡ Some f → fits d s c x ≡ true → is_due d x f ≡ true
+  -- and has a take row there; the next state fits afterwards, and may not write
   pub applies : (c f x : ℕ) → forward_sent d s q c ≡ Some f → fits d s c x ≡ true
       → (t : TakeLine) × (take_row d x f ≡ Some t) × (fits d (entry_after d s q) c t.next ≡ true) × (cache_is is_write_owner d t.next ≡ false)
   -- what it passes on goes to the owner, which is another core than the requestor

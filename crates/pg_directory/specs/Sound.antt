@@ -1,5 +1,5 @@
 -- What holds of a directory between requests, and which requests may come.
-use Rattle.std.specs.Prelude.{ℕ, ◌≡◌, ◌≢◌, ◌<◌, Bool, true, false, IsTrue, [], Some, None, nat_lt}
+use Rattle.std.specs.Prelude.{ℕ, ◌≡◌, ◌≢◌, ◌<◌, Bool, true, false, IsTrue, List, [], ◌∷◌, Some, None, nat_lt}
 use Rattle.std.specs.List.{list_all}
 use Rattle.pg_perm.specs.declared.kinds.DirKind.{DirKind}
 use Rattle.pg_perm.specs.declared.kinds.DirKind.TheVariants as kind
@@ -11,7 +11,7 @@ use Rattle.pg_perm.specs.declared.draft.Draft.{Draft}
 use Rattle.pg_perm.specs.Drafts.{is_rising}
 use Rattle.pg_terms.specs.Terms.{is, is_read_owner, cache_is, out, shared as shared_state, lists}
 use Rattle.pg_terms.specs.Due.{kind_is}
-use Rattle.pg_directory.specs.DirEntries.{DirEntry, Request, is_among, who}
+use Rattle.pg_directory.specs.DirEntries.{DirEntry, Request, is_among, who, entry_after}
 
 -- the kind of the directory's state tells whether there is an owner and whether there are sharers; all of them are among n cores, and the
 -- owner is no sharer
@@ -44,3 +44,8 @@ IsLegalAs d dir w event.Evict = Unit {0}
 
 abbrev pub IsLegal : Draft → DirEntry → Request → Type 0
 IsLegal d s q = IsLegalAs d s.dir (who s q.core) q.event
+
+-- each of the requests comes from one of n cores, and may come where those before it led
+abbrev pub AreLegal : Draft → ℕ → DirEntry → List Request → Type 0
+AreLegal d n s [] = Unit {0}
+AreLegal d n s (q ∷ qs) = (q.core < n) × IsLegal d s q × AreLegal d n (entry_after d s q) qs

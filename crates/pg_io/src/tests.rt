@@ -1,7 +1,9 @@
+ghost use Rattle.std.specs.Prelude.{◌≤◌, IfOk};
+
 use super::*;
 use std::alloc::Global;
 use std::io;
-use std::io::{ErrorKind, Read};
+use std::io::{ErrorKind, Read, Write};
 use std::test::Fail;
 
 /// A reader that fails at each call.
@@ -11,6 +13,46 @@ struct Broken;
 impl Read for Broken {
     fn read(&mut self, _buf: &mut [u8]) -> io::Result<usize> {
         Err(io::Error::from(ErrorKind::BrokenPipe))
+    }
+}
+
+/// A stream whose first call fails and whose other calls take or give one byte. It counts its calls.
+#[derive(Drop)]
+struct FailsOnce {
+    kind: ErrorKind,
+    calls: u32,
+}
+
+impl FailsOnce {
+    fn new(kind: ErrorKind) -> Self {
+        FailsOnce { kind, calls: 0 }
+    }
+
+    fn call(&mut self, room: usize) -> io::Result<usize>
+        ensures { IfOk result (λ count. count ≤ room) }
+    {
+        self.calls = self.calls.saturating_add(1);
+        if self.calls == 1 {
+            Err(io::Error::from(self.kind))
+        } else {
+            Ok(room.min(1))
+        }
+    }
+}
+
+impl Read for FailsOnce {
+    fn read(&mut self, buf: &mut [u8]) -> io::Result<usize> {
+        self.call(buf.len())
+    }
+}
+
+impl Write for FailsOnce {
+    fn write(&mut self, buf: &[u8]) -> io::Result<usize> {
+        self.call(buf.len())
+    }
+
+    fn flush(&mut self) -> io::Result<()> {
+        Ok(())
     }
 }
 
@@ -95,5 +137,43 @@ fn real_streams_give_what_they_have(rt: HostRuntime) -> Result<(), Fail> {
     let full = write_all(&mut RealSink::new(room.as_mut_slice()), text);
     assert!(rt; matches!(&full, Err(WriteError::Fault { written: 4 })));
     assert_eq!(rt; room, *b"some");
+    Ok(())
+}
+
+/// A call of an adapter is one call of its stream: it isn't made again after an error, of whatever kind.
+#[test]
+fn a_failed_call_is_not_made_again(rt: HostRuntime) -> Result<(), Fail> {
+    for kind in [
+        ErrorKind::Interrupted,
+        ErrorKind::WouldBlock,
+        ErrorKind::BrokenPipe,
+    ] {
+        let mut stream = FailsOnce::new(kind);
+        let mut source = RealSource::new(&mut stream);
+        let mut buffer = [0; 4];
+        assert_eq!(rt; source.read(&mut buffer), Took::Failed, "{kind:?}");
+        assert_eq!(rt; source.read(&mut buffer), Took::Bytes(1), "{kind:?}");
+        assert_eq!(rt; stream.calls, 2, "{kind:?}");
+
+        let mut stream = FailsOnce::new(kind);
+        let mut sink = RealSink::new(&mut stream);
+        assert_eq!(rt; sink.write(b"some"), Put::Failed, "{kind:?}");
+        assert_eq!(rt; sink.write(b"some"), Put::Bytes(1), "{kind:?}");
+        assert_eq!(rt; stream.calls, 2, "{kind:?}");
+    }
+    Ok(())
+}
+
+#[test]
+fn a_real_stream_fails_as_a_whole(rt: HostRuntime) -> Result<(), Fail> {
+    let mut stream = FailsOnce::new(ErrorKind::Interrupted);
+    let all = read_all(rt.alloc(), &mut RealSource::new(&mut stream), 9);
+    assert!(rt; matches!(&all, Err(ReadAllError::Fault)));
+    assert_eq!(rt; stream.calls, 1);
+
+    let mut stream = FailsOnce::new(ErrorKind::Interrupted);
+    let written = write_all(&mut RealSink::new(&mut stream), b"some");
+    assert!(rt; matches!(&written, Err(WriteError::Fault { written: 0 })));
+    assert_eq!(rt; stream.calls, 1);
     Ok(())
 }

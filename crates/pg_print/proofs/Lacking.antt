@@ -1,9 +1,10 @@
 -- Texts in which a byte doesn't stand, and where it stands first.
-use Rattle.std.proofs.Common.{◌≡◌, ℕ, Bool, true, not, List, [], ◌∷◌, ◌++◌, refl, ◌∙◌}
-use Rattle.std.specs.Prelude.{◌==◌}
+use Rattle.std.proofs.Common.{◌≡◌, ℕ, Bool, true, false, not, List, [], ◌∷◌, ◌++◌, refl, ◌∙◌}
+use Rattle.std.specs.Prelude.{◌==◌, bytes_eq}
 use Rattle.std.specs.List.{list_all}
 use Rattle.std.proofs.lemmas.Bool.{eq-eqb, and_parts, not-true}
 use Rattle.std.proofs.lemmas.List.Folds.{list_all-append}
+use Rattle.std.proofs.lemmas.Slice.Eq.{bytes_eq-Decides}
 use Rattle.pg_shape.proofs.Bools.{and_of_both}
 use Rattle.pg_shape.proofs.Searches.{not_both}
 
@@ -36,3 +37,7 @@ same_around c (a ∷ rest) [] x y h g e = absurd (not_first c a rest h cc)
 same_around c (a ∷ rest) (b ∷ bs) x y h g e =
     let same = same_around c rest bs x y (lacks_after_first c a rest h) (lacks_after_first c b bs g) cc in
     (cc, same.1)
+
+-- texts that a comparison tells apart are not the same
+pub other_text : (a b : List ℕ) → bytes_eq a b ≡ false → a ≡ b → ⊥
+other_text a b h e = not_both (bytes_eq a b) ((bytes_eq-Decides a b).1 e) h

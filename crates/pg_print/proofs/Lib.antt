@@ -6,3 +6,5 @@ pub mod Joins
 pub mod Known
 pub mod Starts
 pub mod Apart
+pub mod InputWords
+pub mod DirInputWords

@@ -8,8 +8,8 @@ use Rattle.std.proofs.lemmas.Slice.Eq.{bytes_eq-Decides}
 use Rattle.std.proofs.lemmas.Bool.{and_parts, not-true}
 use Rattle.pg_perm.specs.declared.draft.Draft.{Draft}
 use Rattle.pg_perm.specs.Names.{is_letter, is_digit, is_underscore, is_name_byte, is_name, is_state_name}
-use Rattle.pg_perm.specs.Drafts.{cache_names, dir_names, message_names, are_distinct, IsWellFormed}
-use Rattle.pg_perm.specs.Words.{name_of, cache_name, dir_name}
+use Rattle.pg_perm.specs.Drafts.{cache_names, dir_names, message_names, taken_names, are_distinct, IsWellFormed}
+use Rattle.pg_perm.specs.Words.{name_of, cache_name, dir_name, message_name}
 use Rattle.pg_lines.proofs.Weaker.{all_weaker}
 use Rattle.pg_shape.proofs.Bools.{and_of_both}
 use Rattle.pg_shape.proofs.Searches.{not_both, all_at, any_at, get_below}
@@ -99,3 +99,35 @@ pub same_dir : (d : Draft) → IsWellFormed d → (n m : ℕ) → n < length d.d
 same_dir d w n m a b e =
     let count : length (dir_names d) ≡ length d.dirs = length-map d.dirs (λ s. s.name) in
     same_number (dir_names d) n m (distinct d w).1 (omega arith) (omega arith) e
+
+-- Messages
+
+messages_named : (d : Draft) → IsWellFormed d → list_all is_name (message_names d) ≡ true
+messages_named d w =
+    (and_parts (is_name d.name && list_all is_state_name (cache_names d) && list_all is_state_name (dir_names d)) (list_all is_name (message_names d)) w.names).1
+
+pub message_lacks : (d : Draft) → IsWellFormed d → (n : ℕ) → lacks 46 (message_name d n) ≡ true
+message_lacks d w n = at (slice_get (message_names d) n) refl
+  where
+    at : (o : Option (List ℕ)) → slice_get (message_names d) n ≡ o → lacks 46 (unwrap_or o []) ≡ true
+    at None e = refl
+    at (Some name) e = all_weaker is_name_byte (λ b. not (b == 46)) name no_dot (bytes_of name (all_at is_name (message_names d) n name (messages_named d w) e))
+
+pub same_message : (d : Draft) → IsWellFormed d → (n m : ℕ) → n < length d.messages → m < length d.messages → message_name d n ≡ message_name d m → n ≡ m
+same_message d w n m a b e =
+    let count : length (message_names d) ≡ length d.messages = length-map d.messages (λ m. m.name) in
+    let all = and_parts (are_distinct (cache_names d) && are_distinct (dir_names d) && are_distinct (message_names d)) _ w.free in
+    let free = (and_parts (are_distinct (cache_names d) && are_distinct (dir_names d)) (are_distinct (message_names d)) all.0).1 in
+    same_number (message_names d) n m free (omega arith) (omega arith) e
+
+-- no message has a name that is taken
+pub message_not_taken : (d : Draft) → IsWellFormed d → (n k : ℕ) (name : List ℕ) → n < length d.messages → slice_get taken_names k ≡ Some name
+    → message_name d n ≡ name → ⊥
+message_not_taken d w n k name below taken e =
+    let count : length (message_names d) ≡ length d.messages = length-map d.messages (λ m. m.name) in
+    let (x, get) = get_below (message_names d) n (omega arith) in
+    let is : name ≡ x = sym e ∙ ap (λ (o : Option (List ℕ)). unwrap_or o []) get in
+    let free = (and_parts (are_distinct (cache_names d) && are_distinct (dir_names d) && are_distinct (message_names d)) _ w.free).1 in
+    let not_taken = all_at (λ m. not (list_any (bytes_eq m) taken_names)) (message_names d) n x free get in
+    not_both (list_any (bytes_eq x) taken_names) (any_at (bytes_eq x) taken_names k name taken ((bytes_eq-Decides x name).1 (sym is)))
+    (not-true (list_any (bytes_eq x) taken_names) not_taken)

@@ -1,5 +1,5 @@
 -- The words for inputs and acts.
-use Rattle.std.specs.Prelude.{ℕ, List, [], ◌∷◌, ◌++◌, codes}
+use Rattle.std.specs.Prelude.{ℕ, Bool, true, false, List, [], ◌∷◌, ◌++◌, codes}
 use Rattle.std.specs.Option.{option_map_or}
 use Rattle.pg_perm.specs.declared.kinds.ReqClass.{ReqClass}
 use Rattle.pg_perm.specs.declared.draft.Draft.{Draft}
@@ -26,6 +26,12 @@ input_word d (at.DataAll r) = message_name d r ++ codes ".all"
 input_word d (at.DataPart r) = message_name d r ++ codes ".part"
 input_word d at.AckMore = codes "InvAck.more"
 input_word d at.AckLast = codes "InvAck.last"
+
+-- one is an operation of the core, and the other a forward
+abbrev pub is_operation_and_forward : Input → Input → Bool
+is_operation_and_forward (at.Core event) (at.Forward f) = true
+is_operation_and_forward (at.Forward f) (at.Core event) = true
+is_operation_and_forward _ _ = false
 
 abbrev pub act_words : Draft → Act → List (List ℕ)
 act_words d act.Hit = codes "hit" ∷ []

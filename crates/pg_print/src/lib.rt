@@ -19,5 +19,8 @@ mod tests;
 mod word;
 mod wording;
 
-pub use laws::{names_are_told_apart, worked_texts};
+pub use laws::{
+    inputs_are_told_apart, names_are_told_apart, worked_owner_texts, worked_texts,
+    worked_variant_texts,
+};
 pub use printer::table_text;

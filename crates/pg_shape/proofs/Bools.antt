@@ -21,12 +21,6 @@ pub and_not : (a b : Bool) → (a && b) ≡ false → a ≡ true → b ≡ false
 and_not true b h e = h
 and_not false b h e = absurd cc
 
-pub middle_not : (a b c : Bool) → (a && b && c) ≡ false → a ≡ true → c ≡ true → b ≡ false
-middle_not true true true h e g = absurd cc
-middle_not true true false h e g = absurd cc
-middle_not true false c h e g = refl
-middle_not false b c h e g = absurd cc
-
 pub true_not : (b : Bool) → not b ≡ true → b ≡ false
 true_not true h = absurd cc
 true_not false h = refl

@@ -148,21 +148,21 @@ asked_below d w r Evict m h = absurd cc
 -- What a core row keeps
 
 -- an owner that may write goes to a state that is none or is clean, or that the directory tells apart
-abbrev hits_to : Draft → ℕ → ℕ → Bool
+abbrev pub hits_to : Draft → ℕ → ℕ → Bool
 hits_to d s t = cache_is is_write_owner d s && (not (cache_is is_dirty_writer d t) || list_any (tells_apart s t) d.dirs)
 
 -- no rule is broken by a core line of this state, event and form
-record Keeps (d : Draft) (s : ℕ) (event : Event) (form : CoreForm) : Type 0 where
-  formed : has_core_form d event form ≡ true
-  done : (cache_is (allows event) d s && not (is_hit form)) ≡ false
-  asks : (cache_is (λ x. not (allows event x)) d s && is_hit form) ≡ false
-  rests : moves_at_load event form ≡ false
-  asked : asks_otherwise d event form ≡ false
-  replies : has_wrong_replies d s event form ≡ false
-  ends : ends_wrongly d event form ≡ false
-  hits : option_map_or (hits_to d s) (store_next s event form) false ≡ false
-  leaves : leaves_wrongly d s form ≡ false
-  cleans : ends_unclean d event form ≡ false
+pub record Keeps (d : Draft) (s : ℕ) (event : Event) (form : CoreForm) : Type 0 where
+  pub formed : has_core_form d event form ≡ true
+  pub done : (cache_is (allows event) d s && not (is_hit form)) ≡ false
+  pub asks : (cache_is (λ x. not (allows event x)) d s && is_hit form) ≡ false
+  pub rests : moves_at_load event form ≡ false
+  pub asked : asks_otherwise d event form ≡ false
+  pub replies : has_wrong_replies d s event form ≡ false
+  pub ends : ends_wrongly d event form ≡ false
+  pub hits : option_map_or (hits_to d s) (store_next s event form) false ≡ false
+  pub leaves : leaves_wrongly d s form ≡ false
+  pub cleans : ends_unclean d event form ≡ false
 
 -- a core row is a line of its state and event
 pub core_row_get : (d : Draft) (s : ℕ) (event : Event) (x : CoreLine) → core_row d s event ≡ Some x
@@ -193,7 +193,7 @@ core_line_keeps d w h k x e =
     }
 
 -- nor does a core row, at its state and event
-core_row_keeps : (d : Draft) → IsWellFormed d → HasShape d → (s : ℕ) (event : Event) (x : CoreLine) → core_row d s event ≡ Some x
+pub core_row_keeps : (d : Draft) → IsWellFormed d → HasShape d → (s : ℕ) (event : Event) (x : CoreLine) → core_row d s event ≡ Some x
     → Keeps d s event x.form
 core_row_keeps d w h s event x e =
     let (k, g, state, at) = core_row_get d s event x e in
@@ -216,7 +216,7 @@ asks_by d s m Store c (Leave request) keeps stays_in e lacks r = absurd (not_bot
 asks_by d s m Evict c (Leave request) keeps stays_in e lacks r = absurd cc
 
 -- READ and WRITE are there
-has_request : (d : Draft) → HasShape d → (event : Event) → same_event event Evict ≡ false → (m : ℕ) × (request_of d (class_of event) ≡ Some m)
+pub has_request : (d : Draft) → HasShape d → (event : Event) → same_event event Evict ≡ false → (m : ℕ) × (request_of d (class_of event) ≡ Some m)
 has_request d h event stays_in = at event stays_in
   where
     kept : lacks_requests d ≡ false
@@ -438,7 +438,7 @@ read_writes_not perm.Read h = refl
 read_writes_not perm.Write h = absurd cc
 
 -- the out state is out, and has no permission
-out_line : (d : Draft) → HasShape d → (s : ℕ) → out d ≡ Some s
+pub out_line : (d : Draft) → HasShape d → (s : ℕ) → out d ≡ Some s
     → (c : CacheLine) × (slice_get d.caches s ≡ Some c) × (c.role ≡ role.Out) × (is_none_perm c.perm ≡ true)
 out_line d h s e =
     let (c, g, is_so) = (position_get (λ c. is_out c.role) d.caches s e).1 in
@@ -448,7 +448,7 @@ out_line d h s e =
     (c, g, role_out c.role is_so, not-false (is_none_perm c.perm) (and_not (is_out c.role) (not (is_none_perm c.perm)) none.0 is_so))
 
 -- the shared state is shared, and may read
-shared_line : (d : Draft) → HasShape d → (s : ℕ) → shared d ≡ Some s
+pub shared_line : (d : Draft) → HasShape d → (s : ℕ) → shared d ≡ Some s
     → (c : CacheLine) × (slice_get d.caches s ≡ Some c) × (c.role ≡ role.Shared) × (is_read_perm c.perm ≡ true)
 shared_line d h s e =
     let (c, g, is_so) = (position_get (λ c. is_shared c.role) d.caches s e).1 in
@@ -527,6 +527,39 @@ evict_dirty d w h s m x c g owns unclean e leaves =
     or_nothing : (b : Bool) → (b || false) ≡ true → b ≡ true
     or_nothing true h = refl
     or_nothing false h = h
+
+-- an owner that is clean is left by one of class clean or dirty
+pub evict_clean : (d : Draft) → IsWellFormed d → HasShape d → (s m : ℕ) (x : CoreLine) (c : CacheLine) → slice_get d.caches s ≡ Some c
+    → is_owner c.role ≡ true → c.clean ≡ true → core_row d s Evict ≡ Some x → x.form ≡ Leave m
+    → (asks_class Clean d m ≡ true) ⊎ (asks_class Dirty d m ≡ true)
+evict_clean d w h s m x c g owns clean e leaves =
+    let right = leaves_right d s m Evict c x.form (core_row_keeps d w h s Evict x e) g leaves in
+    let owner : leaves_by_another d role.Owner c.clean m ≡ false =
+    subst (λ (r : Role). leaves_by_another d r c.clean m ≡ false) (role_owner c.role owns) right in
+    let here : leaves_by_another d role.Owner true m ≡ false = subst (λ (b : Bool). leaves_by_another d role.Owner b m ≡ false) clean owner in
+    at (or_cases (asks_class Dirty d m) (asks_class Clean d m) (not-false (asks_class Dirty d m || asks_class Clean d m) here))
+  where
+    at : (asks_class Dirty d m ≡ true) ⊎ (asks_class Clean d m ≡ true) → (asks_class Clean d m ≡ true) ⊎ (asks_class Dirty d m ≡ true)
+    at (inl dirty) = inr dirty
+    at (inr unwritten) = inl unwritten
+
+-- the out state has no row for evict
+pub out_stays : (d : Draft) → HasShape d → (s : ℕ) → out d ≡ Some s → core_row d s Evict ≡ None
+out_stays d h s at_out = at (core_row d s Evict) refl
+  where
+    at : (o : Option CoreLine) → core_row d s Evict ≡ o → o ≡ None
+    at None e = refl
+    at (Some x) e =
+        let (k, g, state, event) = core_row_get d s Evict x e in
+        let (c, f, is_so, none) = out_line d h s at_out in
+        let kept : breaks_s7 d x ≡ false = core_keeps d h k x g S7 in
+        let leaves : leaves_out d x ≡ false = (seven_not (leaves_out d x) (asks_needlessly d x) (hits_without_perm d x)
+        (moves_at_load x.event x.form) (asks_otherwise d x.event x.form) (has_wrong_replies d x.state x.event x.form)
+        (ends_wrongly d x.event x.form) kept).0 in
+        let evicts : same_event x.event Evict ≡ true = subst (λ (a : Event). same_event a Evict ≡ true) (sym event) refl in
+        let there : cache_is (λ c. is_out c.role) d x.state ≡ false = and_not (same_event x.event Evict) (cache_is (λ c. is_out c.role) d x.state) leaves evicts in
+        let here : cache_is (λ c. is_out c.role) d s ≡ false = subst (λ (n : ℕ). cache_is (λ c. is_out c.role) d n ≡ false) state there in
+        absurd (not_both (is_out c.role) (ap is_out is_so) (sym (at_cache (λ c. is_out c.role) d s c f) ∙ here))
 
 -- what a core does
 pub shape_gives_cores : (d : Draft) → IsWellFormed d → HasShape d → HasCores d

@@ -12,3 +12,8 @@ pub mod States
 pub mod Cores
 pub mod ShapeGives
 pub mod Finals
+pub mod DueForwards
+pub mod OwnerCount
+pub mod NoneTwice
+pub mod OwnReplies
+pub mod MissingTakes

@@ -3,11 +3,10 @@ use Rattle.std.proofs.Common.{◌≡◌, ℕ, ◌<◌, ◌⊎◌, Bool, true, fa
 use Rattle.std.specs.Prelude.{slice_get, is_none, is_some, ◌==◌}
 use Rattle.std.specs.Option.{option_map_or, option_copied, IsSome}
 use Rattle.std.specs.List.{list_any}
-use Rattle.std.proofs.lemmas.Bool.{or_parts, eqb-true, and_parts, not-false, or_cases, false_from_ne_true}
+use Rattle.std.proofs.lemmas.Bool.{or_parts, eqb-true, and_parts, not-false, false_from_ne_true}
 use Rattle.std.proofs.lemmas.Option.{same_Some}
 use Rattle.pg_perm.specs.declared.kinds.Event.{Event}
 use Rattle.pg_perm.specs.declared.kinds.Event.TheVariants.{Load, Store, Evict}
-use Rattle.pg_perm.specs.declared.kinds.FwdClass.TheVariants.{Inv}
 use Rattle.pg_perm.specs.declared.kinds.DirKind.{DirKind}
 use Rattle.pg_perm.specs.declared.kinds.DirKind.TheVariants as kind
 use Rattle.pg_perm.specs.declared.kinds.Who.{Who}
@@ -25,22 +24,22 @@ use Rattle.pg_perm.specs.declared.draft.RowLine.{RowLine}
 use Rattle.pg_perm.specs.declared.draft.RowForm.{RowForm}
 use Rattle.pg_perm.specs.declared.draft.RowForm.TheVariants as form
 use Rattle.pg_perm.specs.declared.fault.Rule.{Rule}
-use Rattle.pg_perm.specs.declared.fault.Rule.TheVariants.{S2, S5, S8, S12, S13, S15, S18}
+use Rattle.pg_perm.specs.declared.fault.Rule.TheVariants.{S2, S5, S8, S12, S15, S18}
 use Rattle.pg_terms.specs.declared.cases.DirCase.{DirCase}
 use Rattle.pg_terms.specs.declared.cases.DirCase.TheVariants as case
-use Rattle.pg_terms.specs.Terms.{is, is_shared, is_owner, is_request_of, same_who, cache_is, out, shared, request_of, forward_of, core_row, take_row, is_case, dir_row, lists}
-use Rattle.pg_terms.specs.Due.{forward_in, is_to_owner, is_passed_to, is_due, due_cases, lists_read_owner, cases_at, same_case, is_due_case}
+use Rattle.pg_terms.specs.Terms.{is, is_request_of, same_who, out, request_of, core_row, take_row, is_case, dir_row}
+use Rattle.pg_terms.specs.Due.{is_due, due_cases, lists_read_owner, cases_at, same_case, is_due_case}
 use Rattle.pg_terms.proofs.Same.{who_equal, left_equal, request_equal, case_equal, case_same}
 use Rattle.pg_shape.specs.TextRules.{text_breaks}
-use Rattle.pg_shape.specs.CacheRules.{cache_breaks, lacks_core_lines, lacks_inv_line, lacks_answer, lacks_take_lines}
+use Rattle.pg_shape.specs.CacheRules.{cache_breaks, lacks_core_lines}
 use Rattle.pg_shape.specs.DirRules.{dir_breaks, lacks_row}
 use Rattle.pg_shape.specs.MessageRules.{message_breaks}
 use Rattle.pg_shape.specs.CoreRules.{core_breaks}
 use Rattle.pg_shape.specs.TakeRules.{take_breaks, takes_wrongly}
 use Rattle.pg_shape.specs.RowRules.{row_breaks, is_not_due}
 use Rattle.pg_shape.specs.ShapeFaults.{HasShape}
-use Rattle.pg_shape.proofs.Bools.{three_not, three_and, and_not, middle_not}
-use Rattle.pg_shape.proofs.Searches.{not_both, any_get, any_at, any_not, find_get, position_get, get_below, map_or_get, some_of, copied_none}
+use Rattle.pg_shape.proofs.Bools.{three_not, and_not}
+use Rattle.pg_shape.proofs.Searches.{not_both, any_get, any_at, any_not, find_get, position_get, get_below, some_of, copied_none}
 
 -- no rule is broken by the protocol line
 pub text_keeps : (d : Draft) → HasShape d → (R : Rule) → text_breaks d R ≡ false
@@ -104,53 +103,6 @@ take_is_due d h s f t e =
     let wrong : takes_wrongly d t ≡ false = take_keeps d h k t g S12 in
     let right = not-false (is_due d t.state t.forward) (or_parts (not (is_due d t.state t.forward)) _ wrong).0 in
     subst (λ m. is_due d m f ≡ true) state (subst (λ m. is_due d t.state m ≡ true) forward right)
-
--- the shared state has a take line for inv
-inv_has_take : (d : Draft) → HasShape d → (s f : ℕ) → is (shared d) s ≡ true → is (forward_of d Inv) f ≡ true → is_none (take_row d s f) ≡ false
-inv_has_take d h s f at_shared at_inv =
-    let (x, e, role) = (position_get (λ c. is_shared c.role) d.caches s (is_then_some (shared d) s at_shared)).1 in
-    let lacks : lacks_take_lines d s x ≡ false = cache_keeps d h s x e S13 in
-    let inv : lacks_inv_line d s ≡ false = (or_parts (lacks_inv_line d s) _ lacks).0 in
-    let here : (is (shared d) s && is_none (take_row d s f)) ≡ false =
-    subst (λ o. option_map_or (λ g. is (shared d) s && is_none (take_row d s g)) o false ≡ false) (is_then_some (forward_of d Inv) f at_inv) inv in
-    and_not (is (shared d) s) _ here at_shared
-
--- an owner has a take line for what is passed on to it
-owner_has_take : (d : Draft) → HasShape d → (s f : ℕ) → cache_is (λ c. is_owner c.role) d s ≡ true → is_to_owner d f ≡ true
-    → list_any (is_passed_to d s f) d.rows ≡ true → is_none (take_row d s f) ≡ false
-owner_has_take d h s f owner to_owner passed =
-    let (x, e, role) = map_or_get (λ c. is_owner c.role) (slice_get d.caches s) owner in
-    let (k, r, g, to) = any_get (is_passed_to d s f) d.rows passed in
-    let lacks : lacks_take_lines d s x ≡ false = cache_keeps d h s x e S13 in
-    let none = and_not (is_owner x.role) _ (or_parts (lacks_inv_line d s) _ lacks).1 role in
-    let row : lacks_answer d s r ≡ false = any_not (lacks_answer d s) d.rows k r none g in
-    let parts = and_parts (is (forward_in r.form) f) (lists d r.dir s) to in
-    let here : (is_to_owner d f && is_none (take_row d s f) && lists d r.dir s) ≡ false =
-    subst (λ o. option_map_or (λ f. is_to_owner d f && is_none (take_row d s f) && lists d r.dir s) o false ≡ false) (is_then_some (forward_in r.form) f parts.0) row in
-    middle_not (is_to_owner d f) (is_none (take_row d s f)) (lists d r.dir s) here to_owner parts.1
-
--- a due pair has a take line
-pub due_has_take : (d : Draft) → HasShape d → (s f : ℕ) → is_due d s f ≡ true → is_none (take_row d s f) ≡ false
-due_has_take d h s f due = at (or_cases _ _ due)
-  where
-    at : ((is (shared d) s && is (forward_of d Inv) f) ≡ true)
-        ⊎ ((cache_is (λ c. is_owner c.role) d s && is_to_owner d f && list_any (is_passed_to d s f) d.rows) ≡ true)
-        → is_none (take_row d s f) ≡ false
-    at (inl p) = let q = and_parts (is (shared d) s) _ p in inv_has_take d h s f q.0 q.1
-    at (inr p) = let q = three_and (cache_is (λ c. is_owner c.role) d s) (is_to_owner d f) _ p in owner_has_take d h s f q.0 q.1 q.2
-
--- there is no take row exactly where the pair isn't due
-pub take_rows : (d : Draft) → HasShape d → (s f : ℕ) → (take_row d s f ≡ None → is_due d s f ≡ false) × (is_due d s f ≡ false → take_row d s f ≡ None)
-take_rows d h s f = (λ e. false_from_ne_true (is_due d s f) (λ due. not_both (is_none (take_row d s f)) (ap is_none e) (due_has_take d h s f due)), at (take_row d s f) refl)
-  where
-    at : (o : Option TakeLine) → take_row d s f ≡ o → is_due d s f ≡ false → o ≡ None
-    at None e other = refl
-    at (Some t) e other = absurd (not_both (is_due d s f) (take_is_due d h s f t e) other)
-
--- what the reader of take rows answers
-pub take_answered : (d : Draft) → HasShape d → (s f : ℕ) (o : Option (Bor TakeLine)) → option_copied o ≡ take_row d s f
-    → (o ≡ None → is_due d s f ≡ false) × (is_due d s f ≡ false → o ≡ None)
-take_answered d h s f o e = let rows = take_rows d h s f in (λ none. rows.0 (sym e ∙ ap option_copied none), λ other. copied_none o (e ∙ rows.1 other))
 
 -- a message is a request of one class
 one_class : (m : MsgClass) (a b : ReqClass) → is_request_of a m ≡ true → is_request_of b m ≡ true → a ≡ b

@@ -35,18 +35,18 @@ use Rattle.pg_shape.proofs.Shaped.{text_keeps, cache_keeps, dir_keeps, message_k
 -- Places at which a test passes
 
 -- where one passes, one above a later place does
-any_above : {X : Type 0} (p : X → Bool) (xs : List X) (i j : ℕ) (x : X) → i < j → slice_get xs i ≡ Some x → p x ≡ true → list_any p (take j xs) ≡ true
+pub any_above : {X : Type 0} (p : X → Bool) (xs : List X) (i j : ℕ) (x : X) → i < j → slice_get xs i ≡ Some x → p x ≡ true → list_any p (take j xs) ≡ true
 any_above p [] i j x below e h = absurd cc
 any_above p (y ∷ xs) i zero x below e h = absurd (omega (arith, below))
 any_above p (y ∷ xs) zero (suc j) x below e h = or_left (p y) _ (ap p (same_Some y x e) ∙ h)
 any_above p (y ∷ xs) (suc i) (suc j) x below e h = or_right (p y) _ (any_above p xs i j x (omega (arith, below)) e h)
 
 -- above each that passes none does
-abbrev PassesOnce : {X : Type 0} → (X → Bool) → List X → Type 0
+abbrev pub PassesOnce : {X : Type 0} → (X → Bool) → List X → Type 0
 PassesOnce {X} p xs = (k : ℕ) (x : X) → slice_get xs k ≡ Some x → p x ≡ true → list_any p (take k xs) ≡ false
 
 -- then two that pass are at one place
-one_place : {X : Type 0} (p : X → Bool) (xs : List X) → PassesOnce p xs → (i j : ℕ) (x y : X) → slice_get xs i ≡ Some x → p x ≡ true
+pub one_place : {X : Type 0} (p : X → Bool) (xs : List X) → PassesOnce p xs → (i j : ℕ) (x y : X) → slice_get xs i ≡ Some x → p x ≡ true
     → slice_get xs j ≡ Some y → p y ≡ true → i ≡ j
 one_place p xs once i j x y e h f g = omega (arith, not_below i j x y e h f g, not_below j i y x f g e h)
   where
@@ -65,7 +65,7 @@ first_place p xs once s x e h = at (position p xs) refl
 -- Cache states
 
 -- the line of a cache state is no second of its role, nor an owner too many
-not_too_many : (d : Draft) → HasShape d → (s : ℕ) (c : CacheLine) → IsCache d s c
+pub not_too_many : (d : Draft) → HasShape d → (s : ℕ) (c : CacheLine) → IsCache d s c
     → ((is_out c.role && cache.has_out (take s d.caches)) ≡ false) × ((is_shared c.role && cache.has_shared (take s d.caches)) ≡ false)
     × ((is_owner c.role && nat_le 12 (owner_count (take s d.caches))) ≡ false)
 not_too_many d h s c e =
@@ -73,11 +73,11 @@ not_too_many d h s c e =
     three_not (is_out c.role && cache.has_out (take s d.caches)) (is_shared c.role && cache.has_shared (take s d.caches)) _ kept
 
 -- there is one out state
-one_out : (d : Draft) → HasShape d → PassesOnce (λ c. is_out c.role) d.caches
+pub one_out : (d : Draft) → HasShape d → PassesOnce (λ c. is_out c.role) d.caches
 one_out d h s c e role = and_not (is_out c.role) _ (not_too_many d h s c e).0 role
 
 -- and at most one shared state
-one_shared : (d : Draft) → HasShape d → PassesOnce (λ c. is_shared c.role) d.caches
+pub one_shared : (d : Draft) → HasShape d → PassesOnce (λ c. is_shared c.role) d.caches
 one_shared d h s c e role = and_not (is_shared c.role) _ (not_too_many d h s c e).1 role
 
 -- the permission of a cache state goes with its role
@@ -122,7 +122,7 @@ six_not false false false false true f h = absurd cc
 six_not false false false false false f h = (refl, refl, refl, refl, refl, h)
 
 -- the line of a directory state lists what it may
-right_list : (d : Draft) → HasShape d → (n : ℕ) (l : DirLine) → IsDir d n l
+pub right_list : (d : Draft) → HasShape d → (n : ℕ) (l : DirLine) → IsDir d n l
     → (is_second_idle (take n d.dirs) l ≡ false) × (lists_wrong_number l ≡ false) × (has_twice l.beside ≡ false)
     × (lists_another d l ≡ false) × (mixes_a_writer d l ≡ false) × (lacks_shared d l ≡ false)
 right_list d h n l e =

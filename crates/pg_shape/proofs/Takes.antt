@@ -34,7 +34,8 @@ use Rattle.pg_shape.specs.Shaped.{HasTakes, HasLists}
 use Rattle.pg_terms.proofs.Same.{case_same}
 use Rattle.pg_shape.proofs.Bools.{three_not, and_not, or_of_either, one_three, three_both}
 use Rattle.pg_shape.proofs.Searches.{any_get, any_at, find_get, position_get, some_of, not_both}
-use Rattle.pg_shape.proofs.Shaped.{take_keeps, row_keeps, is_then_some, due_has_take, due_class_of}
+use Rattle.pg_shape.proofs.Shaped.{take_keeps, row_keeps, is_then_some, due_class_of}
+use Rattle.pg_shape.proofs.MissingTakes.{due_has_take}
 
 -- the row of a pair is a take line for it, which breaks no rule
 taken : (d : Draft) → HasShape d → (s f : ℕ) (t : TakeLine) → take_row d s f ≡ Some t

@@ -5,18 +5,15 @@
 -- S4: an owner that no dir line lists.
 -- S8: no core line for load, for store, or, at a state that isn't out, for evict.
 -- S13: a due pair of the state without a take line.
-use Rattle.std.specs.Prelude.{ℕ, Bool, false, not, ◌&&◌, ◌||◌, nat_le, List, length, take, is_none}
+use Rattle.std.specs.Prelude.{ℕ, zero, suc, Bool, false, not, ◌&&◌, ◌||◌, nat_le, List, length, take, is_none}
 use Rattle.std.specs.List.{list_any, filter}
-use Rattle.std.specs.Option.{option_map_or}
 use Rattle.pg_perm.specs.declared.draft.Draft.{Draft}
 use Rattle.pg_perm.specs.declared.draft.CacheLine.{CacheLine}
-use Rattle.pg_perm.specs.declared.draft.RowLine.{RowLine}
-use Rattle.pg_perm.specs.declared.kinds.FwdClass.TheVariants.{Inv}
 use Rattle.pg_perm.specs.declared.kinds.Event.TheVariants.{Load, Store, Evict}
 use Rattle.pg_perm.specs.declared.fault.Rule.{Rule}
 use Rattle.pg_perm.specs.declared.fault.Rule.TheVariants.{S1, S2, S3, S4, S8, S13}
-use Rattle.pg_terms.specs.Terms.{is_out, is_shared, is_owner, is_none_perm, is_read_perm, is, out, shared, forward_of, lists_state, lists, core_row, take_row}
-use Rattle.pg_terms.specs.Due.{forward_in, is_to_owner}
+use Rattle.pg_terms.specs.Terms.{is_out, is_shared, is_owner, is_none_perm, is_read_perm, is, out, lists_state, core_row, take_row}
+use Rattle.pg_terms.specs.Due.{is_due}
 
 -- S1: out without none, shared without read, or an owner with none
 abbrev pub has_wrong_perm : CacheLine → Bool
@@ -54,17 +51,18 @@ is_unlisted d s c = is_owner c.role && not (is_listed d s)
 abbrev pub lacks_core_lines : Draft → ℕ → Bool
 lacks_core_lines d s = is_none (core_row d s Load) || is_none (core_row d s Store) || (not (is (out d) s) && is_none (core_row d s Evict))
 
--- the shared state without a take line for the invalidation forward
-abbrev pub lacks_inv_line : Draft → ℕ → Bool
-lacks_inv_line d s = option_map_or (λ f. is (shared d) s && is_none (take_row d s f)) (forward_of d Inv) false
+-- a forward is due in this state, and has no take line
+abbrev pub lacks_take_line : Draft → ℕ → ℕ → Bool
+lacks_take_line d s f = is_due d s f && is_none (take_row d s f)
 
--- a row line passes a request on to an owner that may be in this state, which has no take line for that forward
-abbrev pub lacks_answer : Draft → ℕ → RowLine → Bool
-lacks_answer d s r = option_map_or (λ f. is_to_owner d f && is_none (take_row d s f) && lists d r.dir s) (forward_in r.form) false
+-- there is one below this number
+abbrev pub lacks_take_lines_below : Draft → ℕ → ℕ → Bool
+lacks_take_lines_below d s zero = false
+lacks_take_lines_below d s (suc f) = lacks_take_line d s f || lacks_take_lines_below d s f
 
--- S13: a due pair of this state without a take line: the pairs are those of `is_due`, found from the row lines that make them due
-abbrev pub lacks_take_lines : Draft → ℕ → CacheLine → Bool
-lacks_take_lines d s c = lacks_inv_line d s || (is_owner c.role && list_any (lacks_answer d s) d.rows)
+-- S13: a due pair of this state without a take line
+abbrev pub lacks_take_lines : Draft → ℕ → Bool
+lacks_take_lines d s = lacks_take_lines_below d s (length d.messages)
 
 -- what the line of cache state s breaks
 abbrev pub cache_breaks : Draft → ℕ → CacheLine → Rule → Bool
@@ -73,5 +71,5 @@ cache_breaks d s c S2 = is_one_too_many (take s d.caches) c
 cache_breaks d s c S3 = is_needlessly_clean c
 cache_breaks d s c S4 = is_unlisted d s c
 cache_breaks d s c S8 = lacks_core_lines d s
-cache_breaks d s c S13 = lacks_take_lines d s c
+cache_breaks d s c S13 = lacks_take_lines d s
 cache_breaks d s c R = false

@@ -7,16 +7,11 @@
 //! S8: no core line for load, for store, or, at a state that isn't out, for evict.
 //! S13: a due pair of the state without a take line.
 ghost use Rattle.std.specs.Prelude.{◌≡◌, ◌≤◌, length};
-ghost use Rattle.std.specs.List.{list_any};
-ghost use Rattle.pg_terms.specs.Terms as term;
 ghost use Rattle.pg_shape.specs.CacheRules as cache;
 ghost use Rattle.pg_shape.specs.FirstFaults.{first_rule};
 
-use pg_perm::{CacheLine, Draft, Event, FwdClass, Perm, RowLine, Rule};
-use pg_terms::{
-    core_row, forward_in, forward_of, is, is_out, is_owner, is_shared, is_to_owner, lists,
-    lists_state, out, shared, take_row,
-};
+use pg_perm::{CacheLine, Draft, Event, Perm, Rule};
+use pg_terms::{core_row, is, is_due, is_out, is_owner, is_shared, lists_state, out, take_row};
 
 /// The most cache states in which a cache is the owner.
 const OWNER_LIMIT: usize = 12;
@@ -85,44 +80,30 @@ fn lacks_core_lines(draft: &Draft, state: u8) -> bool
         || (!is(out(draft), state) && core_row(draft, state, Event::Evict).is_none())
 }
 
-fn lacks_inv_line(draft: &Draft, state: u8) -> bool
-    requires { length draft.now.messages ≤ 32 }
-    ensures { result ≡ cache.lacks_inv_line draft.now state }
+fn lacks_take_line(draft: &Draft, state: u8, forward: u8) -> bool
+    ensures { result ≡ cache.lacks_take_line draft.now state forward }
 {
-    match forward_of(draft, FwdClass::Inv) {
-        Some(inv) => is(shared(draft), state) && take_row(draft, state, inv as u8).is_none(),
-        None => false,
-    }
+    is_due(draft, state, forward) && take_row(draft, state, forward).is_none()
 }
 
-fn lacks_answer(draft: &Draft, state: u8, row: &RowLine) -> bool
-    ensures { result ≡ cache.lacks_answer draft.now state row.now }
+fn lacks_take_lines_below(draft: &Draft, state: u8, below: u8) -> bool
+    ensures { result ≡ cache.lacks_take_lines_below draft.now state below }
 {
-    match forward_in(row.form) {
-        Some(forward) => {
-            is_to_owner(draft, forward)
-                && take_row(draft, state, forward).is_none()
-                && lists(draft, row.dir, state)
+    let mut left = below;
+    while left > 0 {
+        left -= 1;
+        if lacks_take_line(draft, state, left) {
+            return true;
         }
-        None => false,
     }
+    false
 }
 
-fn lacks_answers(draft: &Draft, state: u8) -> bool
-    ensures { result ≡ list_any (cache.lacks_answer draft.now state) draft.now.rows }
-{
-    draft
-        .rows
-        .as_slice()
-        .iter()
-        .any(|row| lacks_answer(draft, state, row))
-}
-
-fn lacks_take_lines(draft: &Draft, state: u8, line: &CacheLine) -> bool
+fn lacks_take_lines(draft: &Draft, state: u8) -> bool
     requires { length draft.now.messages ≤ 32 }
-    ensures { result ≡ cache.lacks_take_lines draft.now state line.now }
+    ensures { result ≡ cache.lacks_take_lines draft.now state }
 {
-    lacks_inv_line(draft, state) || (is_owner(line.role) && lacks_answers(draft, state))
+    lacks_take_lines_below(draft, state, draft.messages.len() as u8)
 }
 
 /// The first rule that the line of a cache state breaks.
@@ -146,7 +127,7 @@ pub fn cache_rule(draft: &Draft, state: u8, line: &CacheLine) -> Option<Rule>
     if lacks_core_lines(draft, state) {
         return Some(Rule::S8);
     }
-    if lacks_take_lines(draft, state, line) {
+    if lacks_take_lines(draft, state) {
         return Some(Rule::S13);
     }
     None

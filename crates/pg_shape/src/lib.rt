@@ -17,6 +17,10 @@ mod take_rules;
 mod text_rules;
 
 pub use error::ShapeError;
-pub use laws::{first_fault_is_exact, what_the_shape_gives};
+pub use laws::{
+    evicts_are_clean_or_dirty, first_fault_is_exact, invalidations_need_a_shared_state,
+    missing_take_rows_are_found, named_replies_may_come, nothing_stands_twice, owners_are_few,
+    take_rows_are_due, what_the_shape_gives,
+};
 pub use pg_terms::DirCase;
 pub use protocol::{Protocol, shape};

@@ -29,7 +29,7 @@ use Rattle.pg_table.specs.declared.directory.DirInput.TheVariants as at
 use Rattle.pg_table.specs.Directory.{dir_inputs, DirChoice, evict_acts, by_ask, ask_choice, due_row, dir_choice}
 use Rattle.pg_table.specs.Tables.{has_dir_input}
 
-due_row_is : (d : Draft) (n : ℕ) (a : DirCase) (b : Bool) → is_due_case d n a ≡ b → due_row d n a ≡ cond b (dir_row d n a) None
+pub due_row_is : (d : Draft) (n : ℕ) (a : DirCase) (b : Bool) → is_due_case d n a ≡ b → due_row d n a ≡ cond b (dir_row d n a) None
 due_row_is d n a b h = ap (λ b. cond b (dir_row d n a) None) h
 
 pub ask_has_row : (d : Draft) (n : ℕ) (class : ReqClass) (who : Who) → IsShaped d → is_due_case d n (case.Ask class who) ≡ true

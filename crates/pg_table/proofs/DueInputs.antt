@@ -95,7 +95,7 @@ load_some d s shape below =
     given_some (request_of d Read) (λ q. only_choice (act.Send q ∷ []) (Ask Load (out_state d) D Plain)) request of refl)
 
 -- a store that is a hit leads on
-hit_next : (s : ℕ) (f : CoreForm) → is_hit f ≡ true → (t : ℕ) × (store_next s Store f ≡ Some t)
+pub hit_next : (s : ℕ) (f : CoreForm) → is_hit f ≡ true → (t : ℕ) × (store_next s Store f ≡ Some t)
 hit_next s (form.Hit None) h = (s, refl)
 hit_next s (form.Hit (Some t)) h = (t, refl)
 hit_next s (form.Ask request pairs) h = absurd cc

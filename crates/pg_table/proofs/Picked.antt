@@ -16,14 +16,15 @@ use Rattle.pg_table.proofs.Lists.{get_map}
 use Rattle.pg_table.proofs.Numbers.{at_among, number_of_at}
 use Rattle.pg_table.proofs.Found.{sound_finds, sound_finds_none}
 
--- a state that a number is of is one of the table
+-- the state that a number is of stands there among the states
+pub states_of_at : (t : List TableState) (n : ℕ) → slice_get (states_of t) n ≡ state_at t n
+states_of_at [] n = refl
+states_of_at (x ∷ xs) zero = refl
+states_of_at (x ∷ xs) (suc n) = states_of_at xs n
+
+-- and is one of the table
 state_at_among : (t : List TableState) (n : ℕ) (s : Desc) → state_at t n ≡ Some s → is_among (states_of t) s ≡ true
-state_at_among t n s h = at_among (states_of t) n s (listed t n ∙ h)
-  where
-    listed : (t : List TableState) (n : ℕ) → slice_get (states_of t) n ≡ state_at t n
-    listed [] n = refl
-    listed (x ∷ xs) zero = refl
-    listed (x ∷ xs) (suc n) = listed xs n
+state_at_among t n s h = at_among (states_of t) n s (states_of_at t n ∙ h)
 
 -- a state that is among those of a table stands with its rows at its number
 stands : (t : List TableState) (s : Desc) → is_among (states_of t) s ≡ true
@@ -31,7 +32,7 @@ stands : (t : List TableState) (s : Desc) → is_among (states_of t) s ≡ true
 stands t s among = get_map (λ x. x.desc) t (number_of (states_of t) s) s (number_of_at (states_of t) s among)
 
 -- a row that does what a choice says and leads where it says is that choice
-row_is_choice : (t : List TableState) (r : Row) (c : Choice) → r.acts ≡ c.acts → state_at t r.next ≡ Some c.next → choice_in t r ≡ Some c
+pub row_is_choice : (t : List TableState) (r : Row) (c : Choice) → r.acts ≡ c.acts → state_at t r.next ≡ Some c.next → choice_in t r ≡ Some c
 row_is_choice t r c acts leads =
     ap (λ (o : Option Desc). option_map (λ s. record { acts = r.acts; next = s }) o) leads
     ∙ ap (λ (acts : List Act). Some (record { acts = acts; next = c.next })) acts

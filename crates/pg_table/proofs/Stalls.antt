@@ -87,7 +87,7 @@ pub later_off : (d : Draft) (s : ℕ) (e : Event) (p : Phase) (t : Tag) (f : ℕ
 later_off d s e p t f h = ap (λ b. cond b (waiting s e p t ∷ taken d s e p f ∷ []) []) h
 
 -- where no forward is later, nothing waits
-others : (d : Draft) (s : Desc) (i : Input) → is_later_at d s i ≡ false → list_all goes_on (choices d s i) ≡ true
+pub others : (d : Draft) (s : Desc) (i : Input) → is_later_at d s i ≡ false → list_all goes_on (choices d s i) ≡ true
 others d (Stable s) (at.Core Load) h =
     either_on (cache_is (allows Load) d s) _ _ refl (given_on (request_of d Read) (λ q. only_choice (act.Send q ∷ []) (Ask Load (out_state d) D Plain)) (λ q. refl))
 others d (Stable s) (at.Core Store) h = either_on (cache_is (allows Store) d s) _ _

@@ -38,7 +38,7 @@ form_ends_once d s x y l shape row (form.Ask request pairs) is one other =
 form_ends_once d s x y l shape row (form.Leave request) is one other = absurd one
 
 -- a store that began in one state has one final state
-ends_once : (d : Draft) (s x y : ℕ) → IsShaped d → IsIn x (final_states d s Store) → IsIn y (final_states d s Store) → x ≡ y
+pub ends_once : (d : Draft) (s x y : ℕ) → IsShaped d → IsIn x (final_states d s Store) → IsIn y (final_states d s Store) → x ≡ y
 ends_once d s x y shape one other = of (core_row d s Store) refl one other
   where
     of : (o : Option CoreLine) → core_row d s Store ≡ o → IsIn x (option_map_or (λ l. final_states_in l.form) o [])
@@ -47,7 +47,7 @@ ends_once d s x y shape one other = of (core_row d s Store) refl one other
     of (Some l) row one other = form_ends_once d s x y l shape row l.form refl one other
 
 -- so a tag of the store tells of each of its final states
-tells : (d : Draft) (s x : ℕ) (tag : Tag) → IsShaped d → is_tag_of d s Store tag ≡ true → IsIn x (final_states d s Store) → is_some (end_under_tag d x tag) ≡ true
+pub tells : (d : Draft) (s x : ℕ) (tag : Tag) → IsShaped d → is_tag_of d s Store tag ≡ true → IsIn x (final_states d s Store) → is_some (end_under_tag d x tag) ≡ true
 tells d s x tag shape has one =
     let (y, other, told) = any_in (λ f. is_some (end_under_tag d f tag)) (final_states d s Store) has in
     ap (λ n. is_some (end_under_tag d n tag)) (ends_once d s x y shape one other) ∙ told

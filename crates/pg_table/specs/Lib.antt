@@ -3,6 +3,7 @@ pub mod Descriptors
 pub mod Choices
 pub mod GeneratedStates
 pub mod Directory
+pub mod DirRequests
 pub mod Worked
 pub mod Tables
 pub mod Sound
@@ -10,3 +11,4 @@ pub mod Stalls
 pub mod MixedTables
 pub mod DueInputs
 pub mod Pick
+pub mod Variants

@@ -16,7 +16,8 @@ ghost use Rattle.pg_table.specs.declared.directory.DirAct.TheVariants as does;
 ghost use Rattle.pg_perm.specs.declared.kinds.ReqClass.TheVariants as asks;
 ghost use Rattle.pg_perm.specs.declared.kinds.Who.TheVariants as who;
 ghost use Rattle.pg_perm.specs.declared.kinds.Left.TheVariants as left;
-ghost use Rattle.pg_table.specs.Directory.{dir_generated_states};
+ghost use Rattle.pg_table.specs.Directory.{dir_descs, dir_rows, dir_generated_states};
+ghost use Rattle.pg_table.specs.Variants.{two_shares, owned_reader, keeps_then_gives};
 ghost use Rattle.pg_table.specs.MixedTables.{mixed_states, mixed_table};
 ghost use Rattle.pg_table.specs.Sound.{IsSound};
 ghost use Rattle.pg_table.specs.Tables.{dir_table};
@@ -145,4 +146,30 @@ pub fn worked_mix()
     ensures before { take 3 (mixed_states msi (acks_at_loads msi) msi_mix) ≡ take 3 (generated_states msi mode.Stall) }
     ensures rest { drop 5 (mixed_states msi (acks_at_loads msi) msi_mix) ≡ drop 4 (generated_states msi mode.Stall) }
     ensures sound { IsSound msi (mixed_table msi (acks_at_loads msi) msi_mix) (dir_table msi) }
+{}
+
+/// Of protocols that differ from MSI and MOSI in one thing each, as a person works them out: the states in which the directory waits, in the order of
+/// those before which it does, and a row that leads to the second; the rows of an owned state that lists an owner that may only read; and where an owner
+/// keeps its copy and then gives it, the states of a store that waits for data, and its rows once it has met a keep.
+pub fn worked_variants()
+    ensures waiting { dir_descs two_shares ≡ dir.State 0 ∷ dir.State 1 ∷ dir.State 2 ∷ dir.State 3 ∷ dir.State 4 ∷ dir.Busy 1 ∷ dir.Busy 2 ∷ [] }
+    ensures shares { dir_rows two_shares (dir.State 3) ≡
+        record { input = met.Ask asks.Read who.Other; choice = record { acts = does.Forward 5 ∷ []; next = dir.Busy 2 } } ∷
+        record { input = met.Ask asks.Write who.Other; choice = record { acts = does.Forward 6 ∷ []; next = dir.State 4 } } ∷
+        record { input = met.Evict who.Owner left.Last; choice = record { acts = does.Write ∷ does.PutAck ∷ []; next = dir.State 0 } } ∷
+        record { input = met.EvictNone; choice = record { acts = does.PutAck ∷ []; next = dir.State 3 } } ∷ [] }
+    ensures owned_reader { dir_rows owned_reader (dir.State 3) ≡
+        record { input = met.Ask asks.Read who.Other; choice = record { acts = does.Forward 6 ∷ []; next = dir.State 2 } } ∷
+        record { input = met.Ask asks.Write who.Other; choice = record { acts = does.Forward 7 ∷ []; next = dir.State 3 } } ∷
+        record { input = met.Ask asks.Write who.Owner; choice = record { acts = does.AckCount ∷ []; next = dir.State 3 } } ∷
+        record { input = met.Evict who.Owner left.Last; choice = record { acts = does.Write ∷ does.PutAck ∷ []; next = dir.State 0 } } ∷
+        record { input = met.EvictNone; choice = record { acts = does.PutAck ∷ []; next = dir.State 3 } } ∷ [] }
+    ensures gives { take 4 (drop 6 (descs keeps_then_gives mode.Defer)) ≡ desc.Ask event.Store 0 phase.Ad tag.Plain ∷ desc.Ask event.Store 0 phase.Ad tag.Kept
+        ∷ desc.Ask event.Store 0 phase.Ad tag.Gave ∷ desc.Ask event.Store 0 phase.Ad tag.Gone ∷ [] }
+    ensures kept { rows_of keeps_then_gives mode.Defer (desc.Ask event.Store 0 phase.Ad tag.Kept) ≡
+        record { input = at.Forward 5; choice = record { acts = act.Defer ∷ []; next = desc.Ask event.Store 0 phase.Ad tag.Gave } } ∷
+        record { input = at.Forward 7; choice = record { acts = act.Defer ∷ []; next = desc.Ask event.Store 0 phase.Ad tag.Gone } } ∷
+        record { input = at.DataAll 8; choice = record { acts = act.Fill ∷ act.Done ∷ act.Serve ∷ []; next = desc.Stable 2 } } ∷
+        record { input = at.DataPart 8; choice = record { acts = act.Fill ∷ act.Need ∷ []; next = desc.Ask event.Store 0 phase.A tag.Kept } } ∷
+        record { input = at.AckMore; choice = record { acts = act.Count ∷ []; next = desc.Ask event.Store 0 phase.Ad tag.Kept } } ∷ [] }
 {}

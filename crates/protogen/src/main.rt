@@ -13,7 +13,7 @@ use std::{env, io};
 mod tests;
 
 fn main(rt: HostRuntime) -> ExitCode {
-    ExitCode::from(run(&rt).code())
+    run(&rt).exit_code()
 }
 
 fn run(rt: &HostRuntime) -> Status {

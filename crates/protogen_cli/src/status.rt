@@ -1,7 +1,9 @@
 ghost use Rattle.std.specs.Prelude.{◌≡◌};
+ghost use Rattle.std.specs.Process.{exit_status};
 ghost use Rattle.protogen_cli.specs.Statuses.{exit_code};
 
 use pg_perm::Fault;
+use std::process::ExitCode;
 
 /// How a call ended.
 #[derive(Clone, Copy, Debug, PartialEq, Eq)]
@@ -25,6 +27,13 @@ pub enum Status {
 }
 
 impl Status {
+    /// What the program ends with. Its exit status is the number of this status.
+    pub fn exit_code(&self) -> ExitCode
+        ensures { exit_status result ≡ exit_code self.now }
+    {
+        ExitCode::from(self.code())
+    }
+
     /// The exit status of the program, from 0 to 7.
     pub fn code(&self) -> u8
         ensures { result ≡ exit_code self.now }

@@ -1,6 +1,6 @@
 use Rattle.std.proofs.Common.{subst}
 use Rattle.pg_shape.specs.ShapeFaults.{HasShape}
-use Rattle.pg_shape.proofs.Shaped.{take_answered}
+use Rattle.pg_shape.proofs.MissingTakes.{take_answered}
 use Rattle.pg_shape.proofs.protocol.Protocol.take_row.Goals as goal
 
 pub returns-clause-none : goal.returns-clause-none

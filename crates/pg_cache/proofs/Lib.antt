@@ -1,0 +1,14 @@
+pub mod AllFits
+pub mod Driven
+pub mod First
+pub mod Numbered
+pub mod Once
+pub mod Serves
+pub mod Settles
+pub mod Slots
+pub mod Unique
+pub mod Keeps
+pub mod Outcomes
+pub mod Completed
+pub mod Starting
+pub mod Evicts

@@ -1,0 +1,4 @@
+pub mod Below
+pub mod Sending
+pub mod Rows
+pub mod Starts

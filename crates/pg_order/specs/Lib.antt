@@ -1,0 +1,4 @@
+pub mod Messages
+pub mod Orders
+pub mod Views
+pub mod Worked

@@ -1,0 +1,6 @@
+//! The order of the directory.
+#![tactic(auto)]
+
+mod laws;
+
+pub use laws::{no_overtaking, worked_orders};

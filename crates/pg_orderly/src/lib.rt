@@ -1,0 +1,6 @@
+//! Worlds.
+#![tactic(auto)]
+
+mod laws;
+
+pub use laws::{openings_are_orderly, worked_claims};

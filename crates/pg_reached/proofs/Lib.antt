@@ -1,0 +1,5 @@
+pub mod Join
+pub mod Happens
+pub mod Reached
+pub mod Naming
+pub mod Waiting

@@ -1,0 +1,5 @@
+pub mod Shown
+pub mod Ordering
+pub mod Kept
+pub mod Operations
+pub mod Worked
