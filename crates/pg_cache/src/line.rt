@@ -114,6 +114,23 @@ impl Line {
     }
 
     /// Carries out the row for an input.
+    fn carry_out(
+        &mut self,
+        t: &Tables,
+        input: Input,
+        met: &Received,
+        w: &mut Wires,
+    ) -> Option<Finish>
+        requires ready { IsReady t.now input met.now self.old w.old }
+        requires met { IsMetAt input met.now }
+        ensures row { record { line = self.new; nets = w.new; done = result } ≡ after_row t.now input met.now self.old w.old }
+        ensures complete { is_core input ≡ false → is_some result ≡ completes input }
+        ensures sent { (e : Event) → input ≡ at.Core e → get_or w.old.slots self.old.core None ≡ None → is_none result ≡ is_some (get_or w.new.slots self.old.core None) }
+    {
+        self.registers.drive(t, input, met, w)
+    }
+
+    /// Carries out the row for an input, and answers what it completed without its stamp.
     fn drive(&mut self, t: &Tables, input: Input, met: &Received, w: &mut Wires) -> Option<Finished>
         requires ready { IsReady t.now input met.now self.old w.old }
         requires met { IsMetAt input met.now }
@@ -121,8 +138,37 @@ impl Line {
         ensures complete { is_core input ≡ false → is_some result ≡ completes input }
         ensures sent { (e : Event) → input ≡ at.Core e → get_or w.old.slots self.old.core None ≡ None → is_none result ≡ is_some (get_or w.new.slots self.old.core None) }
     {
-        let done = self.registers.drive(t, input, met, w);
+        let done = self.carry_out(t, input, met, w);
         outcome_of(done)
+    }
+
+    /// Begins an operation of the core, as `issue` does, and answers what it completed with its stamp.
+    pub fn begin(&mut self, t: &Tables, op: Op, w: &mut Wires) -> Option<Finish>
+        requires { IsReady t.now (at.Core (net.event_of op)) (received_op self.old.line op) self.old w.old }
+        ensures { record { line = self.new; nets = w.new; done = result } ≡ after_row t.now (at.Core (net.event_of op)) (received_op self.old.line op) self.old w.old }
+    {
+        let met = self.registers.received_op(op);
+        self.carry_out(t, Input::Core(event_of(op)), &met, w)
+    }
+
+    /// Takes a message from the directory, of whatever kind, and answers what it completed, with its stamp and whether it came late.
+    pub fn take_ordered(&mut self, t: &Tables, m: Ordered, w: &mut Wires) -> Option<Finish>
+        requires { IsReady t.now (ordered_input self.old.line m) (received_ordered self.old.line m) self.old w.old }
+        ensures { record { line = self.new; nets = w.new; done = result } ≡ after_row t.now (ordered_input self.old.line m) (received_ordered self.old.line m) self.old w.old }
+    {
+        let input = self.registers.ordered_input(m);
+        let met = self.registers.received_ordered(m);
+        self.carry_out(t, input, &met, w)
+    }
+
+    /// Takes data or an acknowledgement, and answers what it completed, with its stamp and whether it came late.
+    pub fn take_reply(&mut self, t: &Tables, m: Reply, w: &mut Wires) -> Option<Finish>
+        requires { IsReady t.now (reply_input self.old.line m) (received_reply t.now.protocol self.old.line m) self.old w.old }
+        ensures { record { line = self.new; nets = w.new; done = result } ≡ after_row t.now (reply_input self.old.line m) (received_reply t.now.protocol self.old.line m) self.old w.old }
+    {
+        let input = self.registers.reply_input(m);
+        let met = self.registers.received_reply(t.protocol().draft(), m);
+        self.carry_out(t, input, &met, w)
     }
 
     /// Begins an operation of the core, where none is outstanding and the core's slot is empty. A hit, and an evict in the out state, are done at
@@ -137,7 +183,7 @@ impl Line {
         self.drive(t, Input::Core(event_of(op)), &met, w)
     }
 
-    fn take_ordered(&mut self, t: &Tables, m: Ordered, w: &mut Wires) -> Option<Finished>
+    fn outcome_of_ordered(&mut self, t: &Tables, m: Ordered, w: &mut Wires) -> Option<Finished>
         requires { IsReady t.now (ordered_input self.old.line m) (received_ordered self.old.line m) self.old w.old }
         ensures row { record { line = self.new; nets = w.new; done = finish_of (received_ordered self.old.line m) result } ≡ after_row t.now (ordered_input self.old.line m) (received_ordered self.old.line m) self.old w.old }
         ensures complete { is_some result ≡ completes (ordered_input self.old.line m) }
@@ -147,7 +193,7 @@ impl Line {
         self.drive(t, input, &met, w)
     }
 
-    fn take_reply(&mut self, t: &Tables, m: Reply, w: &mut Wires) -> Option<Finished>
+    fn outcome_of_reply(&mut self, t: &Tables, m: Reply, w: &mut Wires) -> Option<Finished>
         requires { IsReady t.now (reply_input self.old.line m) (received_reply t.now.protocol self.old.line m) self.old w.old }
         ensures row { record { line = self.new; nets = w.new; done = finish_of (received_reply t.now.protocol self.old.line m) result } ≡ after_row t.now (reply_input self.old.line m) (received_reply t.now.protocol self.old.line m) self.old w.old }
         ensures complete { is_some result ≡ completes (reply_input self.old.line m) }
@@ -163,7 +209,7 @@ impl Line {
         requires ready { IsReady t.now (ordered_input self.old.line m) (received_ordered self.old.line m) self.old w.old }
         ensures { record { line = self.new; nets = w.new } ≡ without_done (after_row t.now (ordered_input self.old.line m) (received_ordered self.old.line m) self.old w.old) }
     {
-        let _done = self.take_ordered(t, m, w);
+        let _done = self.outcome_of_ordered(t, m, w);
     }
 
     /// Takes the number of acknowledgements that the outstanding store needs, and answers the store where all were got: then it is done, with the
@@ -174,7 +220,7 @@ impl Line {
         ensures row { record { line = self.new; nets = w.new; done = finish_of (received_ordered self.old.line m) result } ≡ after_row t.now (ordered_input self.old.line m) (received_ordered self.old.line m) self.old w.old }
         ensures complete { is_some result ≡ completes (ordered_input self.old.line m) }
     {
-        self.take_ordered(t, m, w)
+        self.outcome_of_ordered(t, m, w)
     }
 
     /// Takes the answer to an evict: the evict is done.
@@ -197,7 +243,7 @@ impl Line {
         ensures row { record { line = self.new; nets = w.new; done = finish_of (received_reply t.now.protocol self.old.line m) result } ≡ after_row t.now (reply_input self.old.line m) (received_reply t.now.protocol self.old.line m) self.old w.old }
         ensures complete { is_some result ≡ completes (reply_input self.old.line m) }
     {
-        self.take_reply(t, m, w)
+        self.outcome_of_reply(t, m, w)
     }
 
     /// Takes an acknowledgement of an invalidation, and answers the outstanding store where it was the last: then it is done, with the stamp that
@@ -208,7 +254,7 @@ impl Line {
         ensures row { record { line = self.new; nets = w.new; done = finish_of (received_reply t.now.protocol self.old.line m) result } ≡ after_row t.now (reply_input self.old.line m) (received_reply t.now.protocol self.old.line m) self.old w.old }
         ensures complete { is_some result ≡ completes (reply_input self.old.line m) }
     {
-        self.take_reply(t, m, w)
+        self.outcome_of_reply(t, m, w)
     }
 
     /// Whether the line lets a message wait: its state has a row for it, which is the stall row.

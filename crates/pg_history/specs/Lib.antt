@@ -1,1 +1,2 @@
 pub mod HistoryText
+pub mod JournalText

@@ -1,10 +1,12 @@
-//! The text of a block's history.
+//! The texts of a block's history and of its journal.
 #![tactic(auto)]
 
 mod history;
+mod journal;
 mod line;
 
 pub use history::{history_text, write_history};
+pub use journal::{journal_text, write_journal};
 
 #[cfg(test)]
 mod tests;

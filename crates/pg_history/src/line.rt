@@ -1,4 +1,4 @@
-ghost use Rattle.std.specs.Prelude.{◌≡◌, ◌++◌, ◌+◌, ◌≤◌, length, codes};
+ghost use Rattle.std.specs.Prelude.{◌≡◌, ◌++◌, ◌+◌, ◌≤◌, [], length, codes};
 ghost use Rattle.std.specs.Fmt.{decimal};
 
 use itoa::write_digits;
@@ -31,6 +31,17 @@ impl Line {
         Line {
             bytes: [b'\n'; 80],
             start: 79,
+        }
+    }
+
+    /// A line of which there is nothing yet, not even its end.
+    #[inline]
+    pub fn empty() -> Line
+        ensures { result ≡ [] }
+    {
+        Line {
+            bytes: [0; 80],
+            start: 80,
         }
     }
 

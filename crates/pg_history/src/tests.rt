@@ -1,4 +1,5 @@
 use super::*;
+use pg_messages::WorldEvent;
 use pg_perm::{Event, Sequence, Step};
 use std::test::Fail;
 
@@ -27,6 +28,30 @@ fn a_history_has_a_line_for_each_step(rt: HostRuntime) -> Result<(), Fail> {
     assert_eq!(rt;
         history_text(alloc, 0, &none)?.as_slice(),
         b"block 0\n".as_slice()
+    );
+    Ok(())
+}
+
+#[test]
+fn a_journal_is_a_line_with_a_word_for_each_event(rt: HostRuntime) -> Result<(), Fail> {
+    let alloc = rt.alloc();
+    let journal = [
+        (0, WorldEvent::Issue(0)),
+        (0, WorldEvent::Issue(1)),
+        (0, WorldEvent::Request(0)),
+        (0, WorldEvent::Request(1)),
+        (0, WorldEvent::Ordered(0)),
+        (0, WorldEvent::Reply(0)),
+        (0, WorldEvent::Reply(0)),
+        (0, WorldEvent::Reply(0)),
+    ];
+    assert_eq!(rt;
+        journal_text(alloc, 0, &journal)?.as_slice(),
+        b"journal 0 I0 I1 Q0 Q1 O0 R0 R0 R0\n".as_slice()
+    );
+    assert_eq!(rt;
+        journal_text(alloc, 63, &[])?.as_slice(),
+        b"journal 63\n".as_slice()
     );
     Ok(())
 }

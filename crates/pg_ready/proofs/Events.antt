@@ -1,5 +1,5 @@
 -- Each enabled event that a line meets finds it ready.
-use Rattle.std.proofs.Common.{◌≡◌, ℕ, zero, suc, ◌<◌, ◌≤◌, arith, Bool, true, false, ◌&&◌, List, [], ◌∷◌, length, set, get_or, drop, Option, Some, None, refl, sym, ap, subst, ◌∙◌}
+use Rattle.std.proofs.Common.{◌≡◌, ℕ, ◌<◌, ◌≤◌, arith, Bool, true, List, [], ◌∷◌, length, set, get_or, drop, Option, Some, None, refl, sym, ap, subst, ◌∙◌}
 use Rattle.std.specs.Prelude.{slice_get, map, nat_lt, is_some, if◌then◌else◌}
 use Rattle.std.specs.List.{remove}
 use Rattle.std.proofs.lemmas.List.{length-map, get_or-map, set-get_or}
@@ -25,24 +25,24 @@ use Rattle.pg_messages.specs.declared.messages.WorldEvent.TheVariants.{Issue, Or
 use Rattle.pg_order.specs.Orders.{DirOrder}
 use Rattle.pg_controllers.specs.Networks.{Line, Core, event_of, idle_core}
 use Rattle.pg_controllers.specs.Lines.{Received, result_of, ordered_input, reply_input, received_op, received_ordered, received_reply}
-use Rattle.pg_controllers.specs.Worlds.{World, core, order_of, settle, by_choice, issue, deliver, reply, move, step, with_event, is_stable, is_enabled, has_row, has_first, has_next, has_reply, can_happen}
+use Rattle.pg_controllers.specs.Worlds.{World, core, order_of, settle, by_choice, issue, deliver, reply, move, with_event, is_stable, is_enabled, has_row, has_first, has_next, has_reply}
 use Rattle.pg_orderly.specs.Orderly.{Mark, IsLined, IsOrderly}
 use Rattle.pg_safe.specs.Moving.{IsComplete}
 use Rattle.pg_safe.proofs.Replies.{data_due, ack_due}
 use Rattle.pg_reached.proofs.Join.{each_kept}
 use Rattle.pg_reached.proofs.Happens.{enabled_happens}
-use Rattle.pg_queue.specs.Nets.{Nets, without_head, without_reply}
+use Rattle.pg_queue.specs.Nets.{without_head, without_reply}
 use Rattle.pg_cache.specs.Rows.{IsReady}
 use Rattle.pg_ready.specs.WorldViews.{nets_of, line_of}
 use Rattle.pg_ready.proofs.Few.{got_few}
 use Rattle.pg_ready.proofs.Ready.{ready_by}
 
-some_is : {A : Type 0} (o : Option A) → is_some o ≡ true → (x : A) × (o ≡ Some x)
+pub some_is : {A : Type 0} (o : Option A) → is_some o ≡ true → (x : A) × (o ≡ Some x)
 some_is None h = cc
 some_is (Some x) h = (x, refl)
 
 -- The next world is orderly
-stepped : (t : Parts) (n : ℕ) (w : World) (m : ℕ → Mark) (e : WorldEvent) (v : World) → IsWellFormed t.protocol → IsShaped t.protocol → IsSoundCache t.protocol t.cache → IsOrderly t.protocol n w m → IsComplete t.cache n w
+pub stepped : (t : Parts) (n : ℕ) (w : World) (m : ℕ → Mark) (e : WorldEvent) (v : World) → IsWellFormed t.protocol → IsShaped t.protocol → IsSoundCache t.protocol t.cache → IsOrderly t.protocol n w m → IsComplete t.cache n w
     → is_enabled (pick t.cache) w e ≡ true → move t.protocol (pick t.cache) w e ≡ v → (u : ℕ → Mark) × IsOrderly t.protocol n (with_event (0, e) v) u
 stepped t n w m e v wf sh sound o full on moves =
     let can = enabled_happens t.protocol t.cache n w m e wf sh sound o full on in
@@ -50,7 +50,7 @@ stepped t n w m e v wf sh sound o full on moves =
     let now = subst (λ (b : Bool). IsOrderly t.protocol n (with_event (0, e) (if b then move t.protocol (pick t.cache) w e else w)) u) can kept in
     (u, subst (λ (z : World). IsOrderly t.protocol n (with_event (0, e) z) u) moves now)
 
-row : (t : Parts) (n : ℕ) (w : World) (m : ℕ → Mark) (e : WorldEvent) → IsWellFormed t.protocol → IsShaped t.protocol → IsSoundCache t.protocol t.cache → IsOrderly t.protocol n w m → IsComplete t.cache n w
+pub row : (t : Parts) (n : ℕ) (w : World) (m : ℕ → Mark) (e : WorldEvent) → IsWellFormed t.protocol → IsShaped t.protocol → IsSoundCache t.protocol t.cache → IsOrderly t.protocol n w m → IsComplete t.cache n w
     → is_enabled (pick t.cache) w e ≡ true → has_row t.protocol (pick t.cache) w e ≡ true
 row t n w m e wf sh sound o full on = (and_parts (is_enabled (pick t.cache) w e) (has_row t.protocol (pick t.cache) w e) (enabled_happens t.protocol t.cache n w m e wf sh sound o full on)).1
 
@@ -82,7 +82,7 @@ operation_ready t n w m c o os wf sh sound few orderly full low left on =
     (slot_is w c inside) (lists_are w c inside) (full.states c low) picked (got_few t.protocol n w m c wf sh few orderly low)
 
 -- a line at rest has sent no request
-rests : (d : Draft) (p : DirOrder) (c : ℕ) (l : Line) (m : Mark) (s : Desc) (a : Option SentRequest) → is_stable s ≡ true → IsLined d p c l m s a → a ≡ None
+pub rests : (d : Draft) (p : DirOrder) (c : ℕ) (l : Line) (m : Mark) (s : Desc) (a : Option SentRequest) → is_stable s ≡ true → IsLined d p c l m s a → a ≡ None
 rests d p c l m (Stable s) None h lined = refl
 rests d p c l m (Stable s) (Some a) h lined = absurd lined
 rests d p c l m (Ask e s ph t) a h lined = cc

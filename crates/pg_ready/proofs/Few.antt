@@ -1,5 +1,5 @@
 -- A line gets fewer than 64 acknowledgements.
-use Rattle.std.proofs.Common.{◌≡◌, ℕ, zero, suc, ◌+◌, ◌<◌, ◌≤◌, arith, Bool, true, false, ◌&&◌, List, length, refl, sym, ap, ◌∙◌}
+use Rattle.std.proofs.Common.{◌≡◌, ℕ, zero, suc, ◌<◌, ◌≤◌, arith, Bool, true, false, ◌&&◌, length, refl}
 use Rattle.pg_perm.specs.declared.kinds.Event.{Event}
 use Rattle.pg_perm.specs.declared.kinds.Event.TheVariants.{Load, Store, Evict}
 use Rattle.pg_perm.specs.declared.draft.Draft.{Draft}
@@ -8,7 +8,6 @@ use Rattle.pg_shape.specs.Shaped.{IsShaped}
 use Rattle.pg_directory.specs.DirEntries.{without_core}
 use Rattle.pg_order.specs.Messages.{tally}
 use Rattle.pg_order.specs.Orders.{DirOrder, acks_needed, acks_by_event}
-use Rattle.pg_order.specs.Views.{acks_owed}
 use Rattle.pg_order.proofs.Known.{known}
 use Rattle.pg_controllers.specs.Worlds.{World, core, order_of}
 use Rattle.pg_orderly.specs.Orderly.{Mark, view_of, is_pending, is_storing, is_ack_to, AcksAre, IsOrderly}

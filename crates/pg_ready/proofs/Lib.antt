@@ -1,3 +1,7 @@
-mod Few
-mod Ready
-mod Events
+pub mod Few
+pub mod Ready
+pub mod Events
+pub mod Sums
+pub mod DirReady
+pub mod Lists
+pub mod Counts

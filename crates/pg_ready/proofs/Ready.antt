@@ -1,6 +1,6 @@
 -- A line is ready where the world after its row is orderly.
-use Rattle.std.proofs.Common.{◌≡◌, ℕ, zero, suc, ◌+◌, ◌-◌, ◌*◌, ◌<◌, ◌≤◌, arith, Bool, true, false, cond, List, [], ◌∷◌, ◌++◌, length, set, get_or, Option, Some, None, refl, sym, ap, subst, ◌∙◌, ◌⊎◌, inl, inr}
-use Rattle.std.specs.Prelude.{slice_get, map}
+use Rattle.std.proofs.Common.{◌≡◌, ℕ, ◌+◌, ◌-◌, ◌*◌, ◌<◌, ◌≤◌, arith, Bool, true, false, List, [], ◌∷◌, ◌++◌, length, set, get_or, Option, Some, None, refl, sym, ap, ◌∙◌, ◌⊎◌, inl, inr}
+use Rattle.std.specs.Prelude.{map}
 use Rattle.std.specs.List.{list_any}
 use Rattle.std.proofs.lemmas.List.{length-append, map-set, get_or-set_same}
 use Rattle.pg_perm.specs.Drafts.{IsWellFormed}
@@ -37,7 +37,7 @@ any_tally p (x ∷ xs) h = at (p x) refl (any_tally p xs)
     at true e rest = rw e (omega arith)
     at false e rest = let same : list_any p (x ∷ xs) ≡ list_any p xs = rw e refl in let some = rest (sym same ∙ h) in rw e (omega (arith, some))
 
-count_is : (xs : List Core) → ordered_count (map (λ x. x.queue) xs) ≡ total (λ (x : Core). length x.queue) xs
+pub count_is : (xs : List Core) → ordered_count (map (λ x. x.queue) xs) ≡ total (λ (x : Core). length x.queue) xs
 count_is [] = refl
 count_is (x ∷ xs) = ap (λ n. length x.queue + n) (count_is xs)
 
