@@ -69,12 +69,12 @@ pub empty_is : {A : Type 0} (xs : List A) → not (is_empty xs) ≡ false → xs
 empty_is [] h = refl
 empty_is (x ∷ xs) h = cc
 
-some_there : {A : Type 0} (xs : List A) → not (is_empty xs) ≡ true → 0 < length xs
+pub some_there : {A : Type 0} (xs : List A) → not (is_empty xs) ≡ true → 0 < length xs
 some_there [] h = cc
 some_there (x ∷ xs) h = omega arith
 
 -- an active block stands at the place that is found
-active_is : (d : Draft) (p : Picks) (ws : List World) (k b : ℕ) → active_block d p ws k ≡ Some b → (b < length ws) × (is_active p (block d ws b) ≡ true)
+pub active_is : (d : Draft) (p : Picks) (ws : List World) (k b : ℕ) → active_block d p ws k ≡ Some b → (b < length ws) × (is_active p (block d ws b) ≡ true)
 active_is d p ws k b found =
     let (i, at, on) = find_get (λ i. is_active p (block d ws i)) (places_from k (length ws)) b found in (inside (is_active p) ws b (opening d []) refl on, on)
 

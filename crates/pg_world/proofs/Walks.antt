@@ -1,8 +1,8 @@
 -- Going over the events of a block in their order.
-use Rattle.std.proofs.Common.{◌≡◌, ℕ, zero, suc, ◌+◌, ◌*◌, ◌-◌, ◌<◌, ◌≤◌, Bool, true, false, List, [], ◌∷◌, ◌++◌, length, drop, Some, refl, ap, ◌∙◌, arith}
+use Rattle.std.proofs.Common.{◌≡◌, ℕ, zero, suc, ◌+◌, ◌*◌, ◌-◌, ◌<◌, ◌≤◌, Bool, true, false, List, [], ◌∷◌, ◌++◌, length, drop, Option, Some, refl, sym, ap, ◌∙◌, arith}
 use Rattle.std.specs.Prelude.{slice_get, map}
 use Rattle.std.specs.List.{filter, range_with_len}
-use Rattle.std.proofs.lemmas.List.{length-append}
+use Rattle.std.proofs.lemmas.List.{length-append, drop_all}
 use Rattle.pg_messages.specs.declared.messages.WorldEvent.{WorldEvent}
 use Rattle.pg_messages.specs.declared.messages.WorldEvent.TheVariants.{Issue, Request, Ordered, Reply}
 use Rattle.pg_world.specs.Enabled.{events_of}
@@ -110,3 +110,30 @@ some_left p [] zero n h = absurd (omega (arith, h))
 some_left p [] (suc k) n h = absurd (omega (arith, h))
 some_left p (x ∷ xs) zero n h = omega arith
 some_left p (x ∷ xs) (suc k) n h = let low = some_left p xs k n h in omega (arith, low)
+
+-- Steps over the events
+
+pub shown_events : (n r m s : ℕ) → n ≡ m → r ≡ s → events_of n r ≡ events_of m s
+shown_events n r m s cores replies = ap (λ k. events_of k r) cores ∙ ap (events_of m) replies
+
+pub counted_all : {A : Type 0} (p : A → Bool) (xs : List A) (n count : ℕ) → length xs ≤ n → count + length (filter p (drop n xs)) ≡ length (filter p xs) → count ≡ length (filter p xs)
+counted_all p xs n count past is = let none = ap (λ (ys : List _). length (filter p ys)) (drop_all n xs past) in omega (arith, none, is)
+
+-- the first of those that are left
+pub first_left : {A : Type 0} (p : A → Bool) (xs : List A) (k n : ℕ) (x : A) → slice_get xs k ≡ Some x → p x ≡ true → n ≡ 0 → slice_get (filter p (drop k xs)) n ≡ Some x
+first_left p xs k n x get on is = ap (slice_get (filter p (drop k xs))) is ∙ ap (λ (ys : List _). slice_get ys 0) (passes p xs k x get on)
+
+-- the element at a place among those that are left, after one that passes and after one that doesn't
+pub left_passes : {A : Type 0} (p : A → Bool) (xs : List A) (k n m : ℕ) (x : A) (o : Option A) → slice_get xs k ≡ Some x → p x ≡ true → n ≡ suc m → slice_get (filter p (drop k xs)) n ≡ o → n < length (filter p (drop k xs))
+    → (slice_get (filter p (drop (k + 1) xs)) m ≡ o) × (m < length (filter p (drop (k + 1) xs)))
+left_passes p xs k n m x o get on is at low =
+    let all = passes p xs k x get on in
+    let long = ap length all in
+    (ap (λ (ys : List _). slice_get ys (suc m)) (sym all) ∙ ap (slice_get (filter p (drop k xs))) (sym is) ∙ at, omega (arith, long, is, low))
+
+pub left_fails : {A : Type 0} (p : A → Bool) (xs : List A) (k n m : ℕ) (x : A) (o : Option A) → slice_get xs k ≡ Some x → p x ≡ false → n ≡ m → slice_get (filter p (drop k xs)) n ≡ o → n < length (filter p (drop k xs))
+    → (slice_get (filter p (drop (k + 1) xs)) m ≡ o) × (m < length (filter p (drop (k + 1) xs)))
+left_fails p xs k n m x o get off is at low =
+    let all = fails p xs k x get off in
+    let long = ap length all in
+    (ap (λ (ys : List _). slice_get ys m) (sym all) ∙ ap (slice_get (filter p (drop k xs))) (sym is) ∙ at, omega (arith, long, is, low))

@@ -1,6 +1,7 @@
 //! A block's world: its cores with their lines, its networks, its directory, and what happened so far.
 #![tactic(auto)]
 
+mod events;
 mod laws;
 mod todo;
 mod world;

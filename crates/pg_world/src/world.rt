@@ -8,6 +8,7 @@ ghost use Rattle.pg_block.specs.Blocks as blocks;
 ghost use Rattle.pg_world.specs.Kept as kept;
 ghost use Rattle.pg_world.specs.Enabled as events;
 
+use crate::events::event_at;
 use crate::todo::Todo;
 use pg_block::Block;
 use pg_messages::{DoneEntry, OrderEntry, WorldEvent};
@@ -60,6 +61,47 @@ impl World {
         self.block.is_enabled(e)
     }
 
+    #[tactic(auto, using(crate::proofs::Walks::passes, crate::proofs::Walks::fails, crate::proofs::Walks::places))]
+    /// How many events are enabled.
+    pub fn count_enabled(&self) -> u32
+        ensures { result ≡ length (events.enabled_events (pick self.now.tables.cache) self.now.world) }
+    {
+        let cores = self.cores();
+        let replies = self.replies();
+        let places = 3 * cores + replies;
+        let mut count = 0;
+        let mut at = 0;
+        while at < places {
+            if self.enabled(event_at(cores, replies, at)) {
+                count += 1;
+            }
+            at += 1;
+        }
+        count
+    }
+
+    /// The enabled event at a place among those that are enabled, from 0 on: issues, requests and messages from the directory, each by core, and then
+    /// replies by place.
+    pub fn nth_enabled(&self, i: u32) -> WorldEvent
+        requires { i < length (events.enabled_events (pick self.now.tables.cache) self.now.world) }
+        ensures { slice_get (events.enabled_events (pick self.now.tables.cache) self.now.world) i ≡ Some result }
+    {
+        let cores = self.cores();
+        let replies = self.replies();
+        let mut left = i;
+        let mut at = 0;
+        loop {
+            let e = event_at(cores, replies, at);
+            if self.enabled(e) {
+                if left == 0 {
+                    return e;
+                }
+                left -= 1;
+            }
+            at += 1;
+        }
+    }
+
     /// An event that is enabled happens, and is noted in the journal with the number of the seat that made it.
     pub fn step(&mut self, by: u32, e: WorldEvent)
         requires { worlds.is_enabled (pick self.old.tables.cache) self.old.world e ≡ true }
@@ -91,6 +133,14 @@ impl World {
         self.block.done.as_slice()
     }
 
+    /// Whether everything is done: no operation is left, each line is at rest, nothing is on its way, and the directory isn't busy.
+    pub fn finished(&self) -> bool
+        ensures { result ≡ is_finished self.now.world }
+    {
+        let _ = &self.block;
+        self.count_enabled() == 0
+    }
+
     /// How many entries more the journal has room for. There is room until the world is finished.
     pub fn room(&self) -> usize
         ensures room { result + length self.now.world.journal ≡ self.now.limit }
@@ -105,5 +155,13 @@ impl World {
         ensures few { result ≤ 64 }
     {
         self.block.cores() as u32
+    }
+
+    /// How many replies are on their way.
+    fn replies(&self) -> u32
+        ensures replies { result ≡ length self.now.world.replies }
+        ensures few { result ≤ 4097 }
+    {
+        self.block.replies()
     }
 }
