@@ -10,19 +10,7 @@ trap 'rm -rf "$folder"' EXIT
 for protocol in msi moesi; do
     for operations in 1024 2048 4096 8192 16384; do
         name=$folder/$protocol-$operations
-        { cat "protocols/$protocol.txt"; awk -v operations="$operations" 'BEGIN {
-            print "cores 32\nblocks 64"
-            x = 1
-            for (k = 0; k < operations; k++) {
-                x = (x * 1103515245 + 12345) % 2147483648; core = int(x / 65536) % 32
-                x = (x * 1103515245 + 12345) % 2147483648; block = int(x / 65536) % 64
-                x = (x * 1103515245 + 12345) % 2147483648; kind = int(x / 65536) % 8
-                if (kind < 4) print "op " core " load " block
-                else if (kind < 7) print "op " core " store " block " " k
-                else print "op " core " evict " block
-            }
-            print "done"
-        }'; } >"$name"
+        { cat "protocols/$protocol.txt"; awk -v operations="$operations" -f bench/script.awk; } >"$name"
         "$program" atomic <"$name" >"$name.out" || { echo "bench: $name" >&2; exit 1; }
         cat "$name" "$name.out" >"$name.both"
     done

@@ -9,14 +9,14 @@ use Rattle.pg_perm.specs.declared.step.Step.{Step}
 use Rattle.pg_perm.specs.declared.draft.Draft.{Draft}
 use Rattle.pg_script.specs.declared.script.ScriptOp.{ScriptOp}
 use Rattle.pg_script.specs.Scripts.{Operations, is_inside}
-use Rattle.pg_history.specs.HistoryText.{block_text}
+use Rattle.pg_history.specs.HistoryText.{block_text, block_texts}
 use Rattle.pg_perm.specs.declared.step.Step.TheVariants as step
 use Rattle.pg_atomic.specs.States.{State, initial_state, core_next}
 use Rattle.pg_atomic.specs.Steps.{IsReached, after_step, after_steps}
 use Rattle.pg_atomic.proofs.Cores.{length-each_from}
 use Rattle.pg_atomic.specs.Scripts.{op_steps, steps_of}
 use Rattle.pg_atomic_run.specs.declared.block.Block.{Block}
-use Rattle.pg_atomic_run.specs.Histories.{ops_on, block_steps, block_texts}
+use Rattle.pg_atomic_run.specs.Histories.{ops_on, block_steps}
 use Rattle.pg_atomic_run.specs.Blocks.{block_after_op, AreReached, AreStepsSoFar, AreOpen, texts_of}
 
 -- steps leave the number of cores

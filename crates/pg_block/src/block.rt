@@ -174,6 +174,14 @@ impl Block {
         self.carry_out(e);
     }
 
+    /// The line of a core.
+    pub fn line(&self, core: u32) -> &Line
+        requires { core < length self.now.lines }
+        ensures { result.now ≡ blocks.line_at self.now core }
+    {
+        &self.lines[core as usize]
+    }
+
     /// Whether a core is there, at rest, and has an operation left.
     fn can_issue(&self, core: u32) -> bool
         requires { length self.now.programs ≡ length self.now.lines }

@@ -7,7 +7,7 @@ mod pairs;
 mod reading;
 mod states;
 
-pub use laws::forms_are_exact;
+pub use laws::{forms_are_exact, kinds_are_ranked, worked_lines, worked_refusals};
 pub use line::{CoreShape, Kind, Line, RowShape};
 pub use pairs::NamePairs;
 pub use reading::line_of;

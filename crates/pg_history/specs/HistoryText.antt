@@ -1,5 +1,5 @@
 -- The text of a block's history: a line for each step.
-use Rattle.std.specs.Prelude.{ℕ, ◌+◌, Bool, true, false, if◌then◌else◌, List, [], ◌∷◌, ◌++◌, codes}
+use Rattle.std.specs.Prelude.{ℕ, zero, suc, ◌+◌, Bool, true, false, if◌then◌else◌, List, [], ◌∷◌, ◌++◌, codes}
 use Rattle.std.specs.Fmt.{decimal}
 use Rattle.pg_perm.specs.declared.kinds.Event.{Event}
 use Rattle.pg_perm.specs.declared.step.Step.{Step}
@@ -48,3 +48,12 @@ block_line block = codes "block " ++ decimal block ++ codes "\n"
 -- the line that names the block, and the lines of its steps
 abbrev pub block_text : ℕ → List Step → List ℕ
 block_text block steps = block_line block ++ step_lines 0 steps
+
+-- the texts of k blocks, of which the first has number b
+abbrev pub block_texts : (ℕ → List Step) → ℕ → ℕ → List ℕ
+block_texts steps b zero = []
+block_texts steps b (suc k) = block_text b (steps b) ++ block_texts steps (b + 1) k
+
+-- the texts of n blocks, and a last line
+abbrev pub histories_text : (ℕ → List Step) → ℕ → List ℕ
+histories_text steps n = block_texts steps 0 n ++ codes "end\n"

@@ -1,5 +1,6 @@
 pub mod Ranges
 pub mod Race
+pub mod Moved
 pub mod Stores
 pub mod Steps
 pub mod Nexts

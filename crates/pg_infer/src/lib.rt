@@ -18,4 +18,7 @@ mod table;
 mod tag_ends;
 
 pub use generator::generate;
-pub use laws::{answers_do_not_wait, the_race_order_decides};
+pub use laws::{
+    answers_do_not_wait, earlier_forwards_move_the_start, later_forwards_grant,
+    later_forwards_wait, the_race_order_decides,
+};

@@ -7,7 +7,7 @@ mod lines;
 mod words;
 mod writing;
 
-pub use laws::{places_are_exact, written_texts_are_exact};
+pub use laws::{places_are_exact, worked_lines, worked_words, written_texts_are_exact};
 pub use lines::split_line;
 pub use words::Words;
 pub use writing::put_line;

@@ -3,3 +3,4 @@ pub mod Booleans
 pub mod Clones
 pub mod Ranks
 pub mod ReadBack
+pub mod Short

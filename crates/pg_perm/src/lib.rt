@@ -23,7 +23,9 @@ pub use fault::{Fault, Rule};
 pub use kinds::{
     Access, DirKind, Event, FwdClass, Left, Mode, Op, Perm, ReqClass, Role, Side, Who,
 };
-pub use laws::rules_are_ranked;
+pub use laws::{
+    faults_are_ordered, names_are_short, rules_are_ranked, worked_lists, worked_names, worked_words,
+};
 pub use names::{cache_name, dir_name, message_name};
 pub use sequence::Sequence;
 pub use step::{Step, Steps};

@@ -6,3 +6,4 @@ pub mod ScriptFaults
 pub mod Texts
 pub mod Printing
 pub mod Answers
+pub mod Worked

@@ -6,10 +6,11 @@ ghost use Rattle.pg_lines.specs.Lines.{lines_of, words_of};
 ghost use Rattle.pg_script.specs.declared.statement.Statement.{Statement};
 ghost use Rattle.pg_script.specs.Forms.{spelling, HasShortNumbers};
 ghost use Rattle.pg_script.specs.Reading.{statement_of};
-ghost use Rattle.pg_script.specs.Scripts.{Operations, IsWithin};
+ghost use Rattle.pg_script.specs.Scripts.{Operations, IsWithin, on_block};
 ghost use Rattle.pg_script.specs.ScriptFaults.{IsScriptFault};
 ghost use Rattle.pg_script.specs.Texts.{reading, IsScript};
 ghost use Rattle.pg_script.specs.Printing.{lines_in, script_text, IsTextOf};
+ghost use Rattle.pg_script.specs.Worked.{worked_operations};
 
 use pg_perm::{Op, Rule};
 
@@ -51,4 +52,41 @@ pub fn worked_scripts()
     ensures no_done { reading (codes "cores 1\nblocks 1\nop 0 load 0\n") ≡ Err (record { line = 4; rule = Rule.C4 }) }
     ensures byte_behind { reading (codes "cores 1\nblocks 1\ndone\nx") ≡ Err (record { line = 4; rule = Rule.C5 }) }
     ensures no_newline { reading (codes "cores 1\nblocks 1\ndone") ≡ Ok (record { cores = 1; blocks = 1; ops = [] }) }
+{}
+
+/// The operations of a core on a block are those whose lines name both, in the order of the lines: of a script of six operations, each is in one of
+/// four lists, and there are none of a core or a block that the script doesn't have.
+pub fn operations_go_by_core_and_block()
+    ensures core_0_block_0 { on_block worked_operations 0 0 ≡ Op.Store 5 ∷ Op.Load ∷ Op.Evict ∷ [] }
+    ensures core_0_block_1 { on_block worked_operations 0 1 ≡ Op.Evict ∷ [] }
+    ensures core_1_block_0 { on_block worked_operations 1 0 ≡ Op.Load ∷ [] }
+    ensures core_1_block_1 { on_block worked_operations 1 1 ≡ Op.Store 7 ∷ [] }
+    ensures no_such_core { on_block worked_operations 2 0 ≡ [] }
+    ensures no_such_block { on_block worked_operations 0 2 ≡ [] }
+    ensures no_operations { (cores blocks core block : ℕ) → on_block (record { cores = cores; blocks = blocks; ops = [] }) core block ≡ [] }
+    ensures read { reading (codes "cores 2\nblocks 2\nop 0 store 0 5\nop 1 load 0\nop 0 evict 1\nop 0 load 0\nop 1 store 1 7\nop 0 evict 0\ndone\n") ≡ Ok worked_operations }
+    ensures text { script_text worked_operations ≡ codes "cores 2\nblocks 2\nop 0 store 0 5\nop 1 load 0\nop 0 evict 1\nop 0 load 0\nop 1 store 1 7\nop 0 evict 0\ndone\n" }
+{}
+
+/// The first fault of small scripts at the edges of each bound and each form. A line that breaks more than one rule breaks the least, and the first such
+/// line counts.
+pub fn worked_first_faults()
+    ensures most_cores { reading (codes "cores 32\nblocks 64\nop 31 evict 63\ndone\n")
+        ≡ Ok (record { cores = 32; blocks = 64; ops = record { core = 31; block = 63; op = Op.Evict } ∷ [] }) }
+    ensures too_many_cores { reading (codes "cores 33\nblocks 65\ndone\n") ≡ Err (record { line = 1; rule = Rule.C2 }) }
+    ensures too_many_blocks { reading (codes "cores 32\nblocks 65\ndone\n") ≡ Err (record { line = 2; rule = Rule.C2 }) }
+    ensures no_block { reading (codes "cores 32\nblocks 0\ndone\n") ≡ Err (record { line = 2; rule = Rule.C2 }) }
+    ensures other_block { reading (codes "cores 1\nblocks 1\nop 0 load 1\ndone\n") ≡ Err (record { line = 3; rule = Rule.C2 }) }
+    ensures largest_value { reading (codes "cores 1\nblocks 1\nop 0 store 0 4294967295\ndone\n")
+        ≡ Ok (record { cores = 1; blocks = 1; ops = record { core = 0; block = 0; op = Op.Store 4294967295 } ∷ [] }) }
+    ensures large_value { reading (codes "cores 1\nblocks 1\nop 0 store 0 4294967296\ndone\n") ≡ Err (record { line = 3; rule = Rule.C2 }) }
+    ensures no_value { reading (codes "cores 1\nblocks 1\nop 0 store 0\ndone\n") ≡ Err (record { line = 3; rule = Rule.C1 }) }
+    ensures load_with_value { reading (codes "cores 1\nblocks 1\nop 0 load 0 5\ndone\n") ≡ Err (record { line = 3; rule = Rule.C1 }) }
+    ensures blocks_first { reading (codes "blocks 1\ncores 1\ndone\n") ≡ Err (record { line = 1; rule = Rule.C1 }) }
+    ensures blocks_left_out { reading (codes "cores 1\ndone\n") ≡ Err (record { line = 2; rule = Rule.C1 }) }
+    ensures cores_twice { reading (codes "cores 1\nblocks 1\ncores 1\ndone\n") ≡ Err (record { line = 3; rule = Rule.C1 }) }
+    ensures empty_line { reading (codes "cores 1\nblocks 1\n\ndone\n") ≡ Err (record { line = 3; rule = Rule.C1 }) }
+    ensures word_behind_done { reading (codes "cores 1\nblocks 1\ndone now\n") ≡ Err (record { line = 3; rule = Rule.C1 }) }
+    ensures newline_behind { reading (codes "cores 1\nblocks 1\ndone\n\n") ≡ Err (record { line = 4; rule = Rule.C5 }) }
+    ensures two_lines { reading (codes "cores 1\nblocks 1\nop 1 load 0\nop 0 load\n") ≡ Err (record { line = 3; rule = Rule.C2 }) }
 {}

@@ -15,8 +15,10 @@ mod text;
 
 pub use error::ScriptError;
 pub use laws::{
-    first_fault_is_exact, forms_are_exact, printing_is_exact, scripts_are_kept, worked_scripts,
+    first_fault_is_exact, forms_are_exact, operations_go_by_core_and_block, printing_is_exact,
+    scripts_are_kept, worked_first_faults, worked_scripts,
 };
+pub use numbers::number_of;
 pub use printer::print;
 pub use script::{Ops, Script, ScriptOp, ScriptOps, on_block};
 pub use text::read;

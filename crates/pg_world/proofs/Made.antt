@@ -16,7 +16,7 @@ use Rattle.pg_reached.specs.Reached.{IsReachedWorld}
 use Rattle.pg_reached.proofs.Reached.{openings_reached}
 use Rattle.pg_queue.specs.Nets.{Nets}
 use Rattle.pg_cache.specs.Acts.{LineView}
-use Rattle.pg_block.specs.Blocks.{Program, Block, joined, world_of, given_of, no_line}
+use Rattle.pg_block.specs.Blocks.{Program, Limits, Block, joined, world_of, given_of, no_line}
 use Rattle.pg_block.specs.Fitted.{IsPlacedLine}
 use Rattle.pg_block.specs.Openings.{IsNew, new_line, new_lines, limits_for}
 use Rattle.pg_block.proofs.Openings.{lines_length, lines_at}
@@ -125,3 +125,9 @@ made_opens b t ps todo tables programs new given all =
 
 pub few_programs : (ps : List Program) (todo : List (List Op)) → given_of ps ≡ todo → length todo ≤ 64 → length ps ≤ 64
 few_programs ps todo given few = let same = sym (given_length ps) ∙ ap length given in omega (arith, same, few)
+
+pub made_room : (b : Block) (ps : List Program) (todo : List (List Op)) (ops : ℕ) → b.limits ≡ limits_for ops (length ps) → given_of ps ≡ todo → ops ≡ operation_count todo
+    → b.limits.journal ≡ operation_count todo * (2 * length todo + 2)
+made_room b ps todo ops limits given count =
+    let many : length ps ≡ length todo = sym (given_length ps) ∙ ap length given in
+    ap (λ (l : Limits). l.journal) limits ∙ ap (λ (k : ℕ). k * (2 * length ps + 2)) count ∙ ap (λ (n : ℕ). operation_count todo * (2 * n + 2)) many

@@ -1,4 +1,4 @@
-ghost use Rattle.std.specs.Prelude.{ℕ, ◌≡◌, ◌<◌, ◌≤◌, ◌+◌, true, false, length, slice_get, IfOk, Some};
+ghost use Rattle.std.specs.Prelude.{ℕ, ◌≡◌, ◌<◌, ◌≤◌, ◌+◌, ◌*◌, true, false, length, slice_get, IfOk, Some};
 ghost use Rattle.pg_table.specs.Pick.{pick};
 ghost use Rattle.pg_controllers.specs.Runs.{opening};
 ghost use Rattle.pg_controllers.specs.Worlds as worlds;
@@ -11,6 +11,8 @@ ghost use Rattle.pg_world.specs.Enabled as events;
 use crate::events::event_at;
 use crate::todo::Todo;
 use pg_block::Block;
+use pg_cache::Line;
+use pg_dir::Home;
 use pg_messages::{DoneEntry, OrderEntry, WorldEvent};
 use pg_table::Tables;
 use std::alloc::{AllocError, Global};
@@ -46,6 +48,7 @@ impl World {
         ensures tables { IfOk result (λ w. w.tables ≡ tables.value) }
         ensures given { IfOk result (λ w. w.given ≡ todo) }
         ensures opening { IfOk result (λ w. w.world ≡ opening tables.value.protocol todo) }
+        ensures room { IfOk result (λ w. w.limit ≡ kept.operation_count todo * (2 * length todo + 2)) }
     {
         let ops = todo.operations();
         let programs = todo.into_programs();
@@ -117,6 +120,21 @@ impl World {
         ensures reached { IsReachedWorld self.now.tables.protocol self.now.tables.cache self.now.given self.now.world }
     {
         self.block.journal.as_slice()
+    }
+
+    /// The line of a core.
+    pub fn line(&self, core: u32) -> &Line
+        requires { core < length self.now.world.cores }
+        ensures { result.now.line ≡ (worlds.core self.now.world core).line }
+    {
+        self.block.line(core)
+    }
+
+    /// The directory.
+    pub fn home(&self) -> &Home
+        ensures { result.now.directory ≡ self.now.world.directory }
+    {
+        &self.block.home
     }
 
     /// The requests that the directory handled, in its order.

@@ -28,13 +28,23 @@ fn strings(alloc: Global, words: &[&str]) -> Result<Vec<String>, AllocError> {
     Ok(texts)
 }
 
-/// How a command of these words ends on this input, and what it writes.
-fn run(alloc: Global, words: &[&str], input: Vec<u8>) -> Result<(Status, Vec<u8>), AllocError> {
+/// How a command of these words ends on this input, and what it writes where there is room for so many bytes.
+fn run_into(
+    alloc: Global,
+    words: &[&str],
+    input: Vec<u8>,
+    room: u32,
+) -> Result<(Status, Vec<u8>), AllocError> {
     let words = strings(alloc, words)?;
     let mut source = MemorySource::new(input, 65536, Vec::new(alloc));
-    let mut sink = MemorySink::new(alloc, 4096, 4096, Vec::new(alloc))?;
+    let mut sink = MemorySink::new(alloc, room, 4096, Vec::new(alloc))?;
     let status = protogen(alloc, &words, &mut source, &mut sink);
     Ok((status, sink.held().to_vec(alloc)?))
+}
+
+/// How a command of these words ends on this input, and what it writes, which is short.
+fn run(alloc: Global, words: &[&str], input: Vec<u8>) -> Result<(Status, Vec<u8>), AllocError> {
+    run_into(alloc, words, input, 4096)
 }
 
 /// How a check of this text ends, and what it writes.
@@ -367,6 +377,87 @@ fn a_script_is_run_or_judged(rt: HostRuntime) -> Result<(), Fail> {
         assert_eq!(rt; status, wanted, "{script}");
         assert_eq!(rt; bytes.as_slice(), written.as_bytes(), "{script}");
     }
+    Ok(())
+}
+
+/// Words, a script below MSI's text, how the command ends, and what it writes.
+const RUNS: &[(&[&str], &str, Status, &str)] = &[
+    (
+        &["run", "--mode", "stall", "--seed", "0"],
+        "cores 2\nblocks 1\nop 0 store 0 5\nop 1 load 0\ndone\n",
+        Status::Done,
+        "block 0\ntxn 1 c0 store\nacc 1 c0 store 5\ntxn 2 c1 load\nacc 2 c1 load 5\nend\n",
+    ),
+    (
+        &["run", "--mode", "defer", "--seed", "1"],
+        "cores 1\nblocks 2\nop 0 store 1 3\ndone\n",
+        Status::Done,
+        "block 0\nblock 1\ntxn 1 c0 store\nacc 1 c0 store 3\nend\n",
+    ),
+    (
+        &["run", "--mode", "defer", "--seed", "0"],
+        "cores 32\nblocks 1\nop 32 load 0\ndone\n",
+        Status::Script(Fault {
+            line: 3,
+            rule: Rule::C2,
+        }),
+        "script line 3 rule C2\n",
+    ),
+    (
+        &["run", "--mode", "slow"],
+        "cores 1\nblocks 1\ndone\n",
+        Status::Usage,
+        "usage\n",
+    ),
+];
+
+#[test]
+fn a_script_runs_on_the_controllers(rt: HostRuntime) -> Result<(), Fail> {
+    let alloc = rt.alloc();
+    for (words, script, wanted, written) in RUNS {
+        let mut input = MSI.as_bytes().to_vec(alloc)?;
+        input.extend_from_slice(script.as_bytes())?;
+        let (status, bytes) = run(alloc, words, input)?;
+        assert_eq!(rt; status, *wanted, "{script}");
+        assert_eq!(rt; bytes.as_slice(), written.as_bytes(), "{script}");
+    }
+    Ok(())
+}
+
+/// MSI with a script of 16,384 loads over 32 cores and 64 blocks.
+fn largest_script(alloc: Global) -> Result<Vec<u8>, AllocError> {
+    let mut text = String::from_str(alloc, MSI)?;
+    text.push_str("cores 32\nblocks 64\n")?;
+    for k in 0..16384u32 {
+        writeln!(text, "op {} load {}", k % 32, k % 64)?;
+    }
+    text.push_str("done\n")?;
+    Ok(text.into_bytes())
+}
+
+/// Puts what it makes of a block: one core loads 256 times, and only the first one is a miss.
+fn put_loads(text: &mut String, block: u32) -> Result<(), AllocError> {
+    let core = block % 32;
+    writeln!(text, "block {block}")?;
+    writeln!(text, "txn 1 c{core} load")?;
+    for _ in 0..256u32 {
+        writeln!(text, "acc 1 c{core} load 0")?;
+    }
+    Ok(())
+}
+
+#[test]
+fn the_largest_script_is_run(rt: HostRuntime) -> Result<(), Fail> {
+    let alloc = rt.alloc();
+    let words = ["run", "--mode", "defer", "--seed", "7"];
+    let (status, written) = run_into(alloc, words.as_slice(), largest_script(alloc)?, 1_000_000)?;
+    assert_eq!(rt; status, Status::Done);
+    let mut wanted = String::new(alloc);
+    for block in 0..64u32 {
+        put_loads(&mut wanted, block)?;
+    }
+    wanted.push_str("end\n")?;
+    assert_eq!(rt; written.as_slice(), wanted.as_bytes());
     Ok(())
 }
 

@@ -1,1 +1,3 @@
 mod Replies
+mod Runs
+mod NoCommand

@@ -1,7 +1,7 @@
-use Rattle.std.proofs.Common.{◌≡◌, ℕ, ◌+◌, ◌<◌, List, [], Option, None, Some, length, length-append, refl, sym, ap, subst, ◌∙◌, arith}
+use Rattle.std.proofs.Common.{◌≡◌, ℕ, ◌+◌, ◌<◌, ◌≤◌, List, [], Option, None, Some, length, length-append, refl, sym, ap, subst, ◌∙◌, arith}
 use Rattle.std.specs.Prelude.{Result, Ok, Err, Bool, true, false, nat_lt, drop, is_some, if◌then◌else◌}
-use Rattle.std.proofs.lemmas.Bool.{lt-ltb}
-use Rattle.pg_io.specs.ReadAll.{GaveCount}
+use Rattle.std.proofs.lemmas.Bool.{lt-ltb, le-ltb}
+use Rattle.pg_io.specs.ReadAll.{GaveAll, GaveCount}
 use Rattle.pg_perm.specs.declared.draft.Draft.{Draft}
 use Rattle.pg_perm.specs.declared.fault.Fault.{Fault}
 use Rattle.pg_text.specs.Texts.{reading}
@@ -12,7 +12,8 @@ use Rattle.protogen_cli.specs.Statuses.{IsReplied, IsOfText}
 use Rattle.pg_script.specs.Scripts.{Operations}
 use Rattle.pg_script.specs.Texts.{reading as script_reading}
 use Rattle.protogen_cli.specs.declared.words.Command.{Command}
-use Rattle.protogen_cli.specs.declared.words.Command.TheVariants.{Check, Atomic, Compile}
+use Rattle.protogen_cli.specs.declared.words.Machine.{Machine}
+use Rattle.protogen_cli.specs.declared.words.Command.TheVariants.{Check, Compile, Run}
 use Rattle.protogen_cli.specs.Replies.{Reply, too_long_reply, most_bytes, answer_to_script, answer_to_protocol, answer_to_draft, answer_to_text, answer_to_input}
 use Rattle.protogen_cli.specs.Ends.{Tells, Outside, Ends}
 
@@ -23,6 +24,15 @@ some_told (Some left) = (left, refl)
 
 pub answer-long : (command : Command) (input : List ℕ) → 1048576 < length input → answer_to_input command input ≡ too_long_reply
 answer-long command input h = rw (lt-ltb _ _ h) refl
+
+pub answer-short : (command : Command) (input : List ℕ) → length input ≤ 1048576 → answer_to_input command input ≡ answer_to_text command input (reading input)
+answer-short command input h = rw (le-ltb _ _ h) refl
+
+-- a source that gives all tells the input that is read
+pub short_told : (command : Command) (old new : Option (List ℕ)) (bytes : List ℕ) (r : Reply) → GaveAll old new bytes → length bytes ≤ 1048576
+    → r ≡ answer_to_text command bytes (reading bytes) → (input : List ℕ) × Tells old input × (r ≡ answer_to_input command input)
+short_told command None new bytes r given short is = (bytes, tt, is ∙ sym (answer-short command bytes short))
+short_told command (Some old) new bytes r given short is = (bytes, given.0, is ∙ sym (answer-short command bytes short))
 
 -- a source that gives too much tells an input that is too long
 pub long_told : (command : Command) (old new : Option (List ℕ)) → GaveCount old new (λ count. count ≡ 1048576 + 1)
@@ -36,13 +46,13 @@ long_told command (Some old) (Some new) (bytes, given, count) =
 pub answer_to_input-not-usage : (command : Command) (input : List ℕ) → Usage ≡ (answer_to_input command input).status → ⊥
 answer_to_input-not-usage command input = at_length (nat_lt most_bytes (length input))
   where
-    at_script : (d : Draft) (read : Result Operations Fault) → Usage ≡ (answer_to_script d read).status → ⊥
-    at_script d (Ok s) e = cc
-    at_script d (Err f) e = cc
+    at_script : (machine : Machine) (d : Draft) (read : Result Operations Fault) → Usage ≡ (answer_to_script machine d read).status → ⊥
+    at_script machine d (Ok s) e = cc
+    at_script machine d (Err f) e = cc
 
     at_protocol : (command : Command) (d : Draft) (rest : List ℕ) → Usage ≡ (answer_to_protocol command d rest).status → ⊥
     at_protocol Check d rest e = cc
-    at_protocol Atomic d rest e = at_script d (script_reading rest) e
+    at_protocol (Run machine) d rest e = at_script machine d (script_reading rest) e
     at_protocol (Compile m) d rest e = cc
 
     at_draft : (d : Draft) (rest : List ℕ) (fault : Option Fault) → Usage ≡ (answer_to_draft command d rest fault).status → ⊥
@@ -61,13 +71,13 @@ answer_to_input-not-usage command input = at_length (nat_lt most_bytes (length i
 pub answer_to_input-replied : (command : Command) (input : List ℕ) → IsReplied (answer_to_input command input).status
 answer_to_input-replied command input = at_length (nat_lt most_bytes (length input))
   where
-    at_script : (d : Draft) (read : Result Operations Fault) → IsReplied (answer_to_script d read).status
-    at_script d (Ok s) = tt
-    at_script d (Err f) = tt
+    at_script : (machine : Machine) (d : Draft) (read : Result Operations Fault) → IsReplied (answer_to_script machine d read).status
+    at_script machine d (Ok s) = tt
+    at_script machine d (Err f) = tt
 
     at_protocol : (command : Command) (d : Draft) (rest : List ℕ) → IsReplied (answer_to_protocol command d rest).status
     at_protocol Check d rest = tt
-    at_protocol Atomic d rest = at_script d (script_reading rest)
+    at_protocol (Run machine) d rest = at_script machine d (script_reading rest)
     at_protocol (Compile m) d rest = tt
 
     at_draft : (d : Draft) (rest : List ℕ) (fault : Option Fault) → IsReplied (answer_to_draft command d rest fault).status

@@ -3,3 +3,4 @@ pub mod Statuses
 pub mod Replies
 pub mod Ends
 pub mod Judging
+pub mod Runs

@@ -9,13 +9,16 @@ use Rattle.pg_shape.specs.FirstFaults.{shape_fault}
 use Rattle.protogen_cli.specs.declared.status.Status.{Status}
 use Rattle.pg_script.specs.Scripts.{Operations}
 use Rattle.pg_script.specs.Texts.{reading as script_reading}
-use Rattle.pg_atomic_run.specs.Histories.{histories}
+use Rattle.pg_atomic_run.specs.Histories.{histories as atomic_histories}
+use Rattle.pg_controller_run.specs.Histories.{histories as controller_histories}
 use Rattle.pg_table.specs.Tables.{generated_tables}
 use Rattle.pg_print.specs.TableText.{table_text}
 use Rattle.pg_perm.specs.declared.kinds.Mode.{Mode}
 use Rattle.protogen_cli.specs.declared.status.Status.TheVariants.{Done, Text, Usage, TooLong, Script}
+use Rattle.protogen_cli.specs.declared.words.Machine.{Machine}
+use Rattle.protogen_cli.specs.declared.words.Machine.TheVariants.{Atomic, Controllers}
 use Rattle.protogen_cli.specs.declared.words.Command.{Command}
-use Rattle.protogen_cli.specs.declared.words.Command.TheVariants.{Check, Atomic, Compile}
+use Rattle.protogen_cli.specs.declared.words.Command.TheVariants.{Check, Compile, Run}
 use Rattle.protogen_cli.specs.Words.{command_of}
 
 -- a status, and what is written before the call ends with it
@@ -54,10 +57,15 @@ script_fault f = record { status = Script f; bytes = script_line f }
 abbrev pub ok_reply : Reply
 ok_reply = record { status = Done; bytes = codes "ok\n" }
 
+-- the histories of a script's blocks on a machine
+abbrev pub histories_on : Machine → Draft → Operations → List ℕ
+histories_on Atomic d s = atomic_histories d s
+histories_on (Controllers mode seed) d s = controller_histories d mode seed s
+
 -- the reply to what a script says on a protocol, or to the script's first fault
-abbrev pub answer_to_script : Draft → Result Operations Fault → Reply
-answer_to_script d (Ok s) = record { status = Done; bytes = histories d s }
-answer_to_script d (Err f) = script_fault f
+abbrev pub answer_to_script : Machine → Draft → Result Operations Fault → Reply
+answer_to_script machine d (Ok s) = record { status = Done; bytes = histories_on machine d s }
+answer_to_script machine d (Err f) = script_fault f
 
 -- the reply to a protocol whose tables are asked for
 abbrev pub tables_reply : Draft → Mode → Reply
@@ -66,8 +74,8 @@ tables_reply d m = record { status = Done; bytes = table_text (generated_tables 
 -- the reply to a command on a protocol, with what stands after its text
 abbrev pub answer_to_protocol : Command → Draft → List ℕ → Reply
 answer_to_protocol Check d rest = ok_reply
-answer_to_protocol Atomic d rest = answer_to_script d (script_reading rest)
 answer_to_protocol (Compile m) d rest = tables_reply d m
+answer_to_protocol (Run machine) d rest = answer_to_script machine d (script_reading rest)
 
 -- the reply to a draft by its first fault of the shape, if it has one
 abbrev pub answer_to_draft : Command → Draft → List ℕ → Option Fault → Reply

@@ -1,5 +1,9 @@
 ghost use Rattle.std.specs.Prelude.{◌≡◌, ℕ, ◌-◌, ◌^◌, ◌<◌, ◌≤◌, ◌↔◌, ◌⊎◌, Some, List, false};
-ghost use Rattle.protogen_cli.specs.Words.{word_bytes, is_taken};
+ghost use Rattle.pg_perm.specs.declared.kinds.Mode.{Mode};
+ghost use Rattle.protogen_cli.specs.declared.words.Machine.TheVariants.{Controllers};
+ghost use Rattle.protogen_cli.specs.declared.words.Command.TheVariants.{Run};
+ghost use Rattle.protogen_cli.specs.Runs.{HasRun};
+ghost use Rattle.protogen_cli.specs.Words.{word_bytes, is_taken, command_of as command_of_words};
 ghost use Rattle.protogen_cli.specs.Statuses.{IsReplied, IsOfText};
 ghost use Rattle.pg_io.specs.ReadAll.{GaveCount};
 ghost use Rattle.protogen_cli.specs.Replies.{Reply, answer};
@@ -17,7 +21,8 @@ use std::alloc::Global;
 /// line L that breaks a rule and the first rule R that it breaks. The other commands do the same where a line breaks a rule. Where none does,
 /// `atomic` takes what stands after the text's `end` line as a script and writes the histories of the script's blocks on the atomic machine,
 /// or `script line L rule R` for the first line L of the script that breaks a rule and the first such rule R; `compile --mode stall` and
-/// `compile --mode defer` write the tables of the protocol's controllers. All write `too long` where the source gave 1,048,577 bytes, which
+/// `compile --mode defer` write the tables of the protocol's controllers; and `run --mode M --seed N` writes the histories of the script's blocks on
+/// these controllers, whose messages are delivered on the schedule of the seed. The clause `run` says what such a history is. All write `too long` where the source gave 1,048,577 bytes, which
 /// is one more than an input may have. At other words it reads nothing and writes `usage`. All that is written is made before any of it is
 /// written.
 ///
@@ -39,6 +44,9 @@ pub fn protogen<S: Source, K: Sink>(
     ensures complete { (input : List ℕ) → S.left source.old ≡ Some input
         → S.faults source.new ≡ S.faults source.old → K.faults sink.new ≡ K.faults sink.old
         → (result ≡ (answer (word_bytes words.now) input).status) ⊎ (result ≡ Status.Memory) }
+
+    ensures run { (mode : Mode) (seed : ℕ) → command_of_words (word_bytes words.now) ≡ Some (Run (Controllers mode seed)) → result ≡ Status.Done
+        → HasRun (S.left source.old) (K.held sink.old) (K.held sink.new) }
 
     ensures usage { (result ≡ Status.Usage)
         ↔ ((is_taken (word_bytes words.now) ≡ false) × (K.faults sink.new ≡ K.faults sink.old)) }

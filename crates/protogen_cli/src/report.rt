@@ -6,12 +6,13 @@ ghost use Rattle.pg_text.specs.Texts.{reading};
 ghost use Rattle.protogen_cli.specs.Replies as replies;
 
 use crate::status::Status;
-use crate::words::Command;
+use crate::words::{Command, Machine};
 use pg_atomic_run::atomic_run;
+use pg_controller_run::controller_run;
 use pg_infer::generate;
 use pg_perm::{Draft, Fault, Mode};
 use pg_print::table_text;
-use pg_script::ScriptError;
+use pg_script::{Script, ScriptError};
 use pg_shape::{Protocol, ShapeError, shape};
 use pg_text::TextError;
 use std::alloc::{AllocError, Global};
@@ -30,6 +31,20 @@ impl Model for Report {
     ghost Value = { Reply };
 
     ghost view = { λ r. record { status = r.status; bytes = r.bytes.items } };
+}
+
+fn histories_on(
+    alloc: Global,
+    machine: Machine,
+    protocol: &Protocol,
+    script: &Script,
+) -> Result<Vec<u8>, AllocError>
+    ensures { IfOk result (λ text. text.items ≡ replies.histories_on machine protocol.now script.now) }
+{
+    match machine {
+        Machine::Atomic => atomic_run(alloc, protocol, script),
+        Machine::Controllers(mode, seed) => controller_run(alloc, protocol, mode, seed, script),
+    }
 }
 
 impl Report {
@@ -62,15 +77,20 @@ impl Report {
         })
     }
 
-    /// Runs the script on the atomic machine of the protocol.
-    fn on_script(alloc: Global, protocol: &Protocol, script: &[u8]) -> Result<Self, AllocError>
+    /// Runs the script on a machine of the protocol.
+    fn on_script(
+        alloc: Global,
+        machine: Machine,
+        protocol: &Protocol,
+        script: &[u8],
+    ) -> Result<Self, AllocError>
         requires { length script.now < 4294967295 }
-        ensures { IfOk result (λ report. report ≡ replies.answer_to_script protocol.now (script_reading script.now)) }
+        ensures { IfOk result (λ report. report ≡ replies.answer_to_script machine protocol.now (script_reading script.now)) }
     {
         match pg_script::read(alloc, script) {
             Ok(script) => Ok(Report {
                 status: Status::Done,
-                bytes: atomic_run(alloc, protocol, &script)?,
+                bytes: histories_on(alloc, machine, protocol, &script)?,
             }),
             Err(ScriptError::Fault(fault)) => Report::on_script_fault(alloc, fault),
             Err(ScriptError::Memory) => Err(AllocError),
@@ -100,8 +120,8 @@ impl Report {
     {
         match command {
             Command::Check => Report::new(alloc, Status::Done, "ok\n"),
-            Command::Atomic => Report::on_script(alloc, protocol, rest),
             Command::Compile(mode) => Report::on_tables(alloc, protocol, mode),
+            Command::Run(machine) => Report::on_script(alloc, machine, protocol, rest),
         }
     }
 

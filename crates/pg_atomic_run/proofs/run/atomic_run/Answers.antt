@@ -1,7 +1,8 @@
 use Rattle.std.proofs.Common.{◌≡◌, ℕ, ◌+◌, List, ◌++◌, length, append-nil, sym, ap, subst, ◌∙◌, arith}
 use Rattle.std.specs.Prelude.{IfOk, codes}
 use Rattle.pg_script.specs.declared.script.ScriptOp.{ScriptOp}
-use Rattle.pg_atomic_run.specs.Histories.{block_steps, block_texts}
+use Rattle.pg_history.specs.HistoryText.{block_texts}
+use Rattle.pg_atomic_run.specs.Histories.{block_steps}
 use Rattle.pg_atomic_run.specs.Blocks.{AreStepsSoFar, AreOpen, texts_of}
 use Rattle.pg_atomic_run.proofs.Stands.{open_at, texts_at}
 use Rattle.pg_atomic_run.proofs.run.atomic_run.Goals as goal

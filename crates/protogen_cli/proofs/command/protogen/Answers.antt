@@ -1,6 +1,7 @@
 use Rattle.std.proofs.Common.{◌∙◌, ap, refl, subst, sym, arith}
 use Rattle.protogen_cli.specs.Statuses.{IsReplied, IsOfText}
 use Rattle.protogen_cli.proofs.Replies.{some_told, answer_to_input-not-usage, answer_to_input-replied, of_text_due, taken_not}
+use Rattle.protogen_cli.proofs.Runs.{has_run, reply_of}
 use Rattle.protogen_cli.proofs.command.protogen.Goals as goal
 
 pub returns-in_default-clause-answer : goal.returns-in_default-clause-answer
@@ -68,3 +69,9 @@ pub finish-requires-in-Ok-clause-replied : goal.finish-requires-in-Ok-clause-rep
 finish-requires-in-Ok-clause-replied g c =
     let (input, _, same) = c.in-Ok.ensures.reply in
     subst IsReplied (sym (c.status.ensures ∙ ap (λ r. r.status) same)) (answer_to_input-replied c.in-Some.command input)
+
+pub returns-in-Ok-clause-run : goal.returns-in-Ok-clause-run
+returns-in-Ok-clause-run g c = λ mode seed asked done.
+    let (input, told, same) = c.in-Ok.ensures.reply in
+    let due = reply_of c.status.result c.bytes.result.now _ c.status.ensures c.bytes.ensures ∙ same in
+    has_run mode seed c.command_of.result _ c.in-Some.command _ _ _ _ _ c.command_of.ensures c.in-Some.is asked (input, told, due) (c.finish-in-Ok.ensures.ends 0) done

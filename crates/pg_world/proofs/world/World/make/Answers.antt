@@ -3,7 +3,7 @@ use Rattle.pg_perm.specs.Drafts.{IsWellFormed}
 use Rattle.pg_shape.specs.Shaped.{IsShaped}
 use Rattle.pg_table.specs.Tables.{Parts}
 use Rattle.pg_table.specs.Sound.{IsSound}
-use Rattle.pg_world.proofs.Made.{made_kept, made_opens, few_programs}
+use Rattle.pg_world.proofs.Made.{made_kept, made_opens, made_room, few_programs}
 use Rattle.pg_world.proofs.world.World.make.Goals as goal
 
 pub make-requires-clause-few : goal.make-requires-clause-few
@@ -21,3 +21,7 @@ pub returns-clause-opening : goal.returns-clause-opening
 returns-clause-opening c =
     let made = c.in_ok-block.ensures in
     made_opens c.in_ok-block.block c.args.tables.value c.into_programs-programs.result.items c.args.todo made.tables made.programs made.new c.into_programs-programs.ensures.given c.into_programs-programs.ensures.whole
+
+pub returns-clause-room : goal.returns-clause-room
+returns-clause-room c =
+    made_room c.in_ok-block.block c.into_programs-programs.result.items c.args.todo c.operations-ops.result c.in_ok-block.ensures.limits c.into_programs-programs.ensures.given c.operations-ops.ensures
