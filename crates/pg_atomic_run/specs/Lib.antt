@@ -1,2 +1,3 @@
 pub mod Histories
 pub mod Blocks
+pub mod Worked

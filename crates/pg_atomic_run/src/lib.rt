@@ -5,5 +5,5 @@ mod block;
 mod laws;
 mod run;
 
-pub use laws::histories_are_runs;
+pub use laws::{histories_are_runs, worked_scripts};
 pub use run::atomic_run;

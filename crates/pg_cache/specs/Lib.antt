@@ -1,3 +1,4 @@
 pub mod Acts
 pub mod Rows
 pub mod Inputs
+pub mod Worked

@@ -3,4 +3,4 @@
 
 mod laws;
 
-pub use laws::messages_keep_worlds_orderly;
+pub use laws::{messages_keep_worlds_orderly, worked_answers};

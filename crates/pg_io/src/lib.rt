@@ -2,6 +2,7 @@
 //! fails. Whole texts are read and written through them, and doubles in memory stand in for the real streams.
 #![tactic(auto)]
 
+mod laws;
 mod memory_sink;
 mod memory_source;
 mod pieces;
@@ -12,6 +13,10 @@ mod source;
 mod sure;
 mod write;
 
+pub use laws::{
+    all_bytes_are_written, all_that_is_left_is_read, pieces_and_calls, reads_give_the_next_bytes,
+    writes_add_the_first_bytes,
+};
 pub use memory_sink::MemorySink;
 pub use memory_source::MemorySource;
 pub use read::{ReadAllError, read_all};

@@ -1,6 +1,6 @@
 //! Laws on moves.
 
-ghost use Rattle.std.specs.Prelude.{ℕ, ◌≡◌, ◌<◌, true, false, List, ◌∷◌, slice_get, Some};
+ghost use Rattle.std.specs.Prelude.{ℕ, ◌≡◌, ◌<◌, true, false, List, ◌∷◌, length, slice_get, Some};
 ghost use Rattle.pg_perm.specs.declared.kinds.FwdClass.TheVariants.{Inv};
 ghost use Rattle.pg_perm.specs.declared.draft.Draft.{Draft};
 ghost use Rattle.pg_perm.specs.Drafts.{IsWellFormed};
@@ -16,7 +16,10 @@ ghost use Rattle.pg_messages.specs.declared.messages.WorldEvent.TheVariants.{Iss
 ghost use Rattle.pg_controllers.specs.Worlds.{Picks, World, core, move, is_enabled};
 ghost use Rattle.pg_orderly.specs.Orderly.{Mark, is_pending, IsOrderly};
 ghost use Rattle.pg_safe.specs.Moving.{IsComplete};
-ghost use Rattle.pg_moves.specs.Kept.{IsOrderlyWorld};
+ghost use Rattle.pg_moves.specs.Kept.{IsOrderlyWorld, IsSoundWorld};
+ghost use Rattle.pg_safe.specs.OneRow.{HasDirState};
+ghost use Rattle.pg_controllers.specs.Runs.{opening};
+ghost use Rattle.pg_perm.specs.declared.kinds.Op.{Op};
 
 #[tactic(auto, using(crate::proofs::Kept::reached_good))]
 /// A world stays orderly when a core begins an operation, when the directory handles a request, when data is written back, when an evict is done, and when a
@@ -34,4 +37,13 @@ pub fn worlds_stay_orderly()
         → c < n → (core w c).queue ≡ Forward f r i k ∷ ms → is_enabled (pick t) w (Ordered_to c) ≡ true → has_class Inv d f ≡ false → IsOrderlyWorld d n (move d (pick t) w (Ordered_to c)) }
     ensures invalidated { (d : Draft) (t : List TableState) (n : ℕ) (w : World) (m : ℕ → Mark) (c f r i k : ℕ) (ms : List Ordered) → IsWellFormed d → IsShaped d → IsSoundCache d t → IsOrderly d n w m → IsComplete t n w
         → c < n → (core w c).queue ≡ Forward f r i k ∷ ms → is_enabled (pick t) w (Ordered_to c) ≡ true → is_pending (core w c) ≡ false → IsOrderlyWorld d n (move d (pick t) w (Ordered_to c)) }
+{}
+
+/// The opening is sound. In a sound world, which is orderly, each line and the directory is in a state of its table.
+pub fn sound_worlds_are_orderly()
+    ensures opening { (d : Draft) (t : List TableState) (given : List (List Op)) → IsWellFormed d → IsShaped d → IsSoundCache d t
+        → IsSoundWorld d t (length given) (opening d given) }
+    ensures orderly { (d : Draft) (t : List TableState) (n : ℕ) (w : World) → IsSoundWorld d t n w → IsOrderlyWorld d n w }
+    ensures complete { (d : Draft) (t : List TableState) (n : ℕ) (w : World) → IsSoundWorld d t n w → IsComplete t n w }
+    ensures directory { (d : Draft) (t : List TableState) (n : ℕ) (w : World) → IsSoundWorld d t n w → HasDirState d w }
 {}

@@ -1,4 +1,5 @@
-ghost use Rattle.std.specs.Prelude.{◌≡◌, ◌<◌, [], ◌∷◌, ◌++◌, length, IfOk, IfSome, IfNone};
+ghost use Rattle.pg_wait.specs.Waits as waits;
+ghost use Rattle.std.specs.Prelude.{◌≡◌, ◌<◌, [], ◌∷◌, length, IfOk, IfSome, IfNone};
 
 use pg_messages::Ordered;
 use std::alloc::{AllocError, Global};
@@ -26,7 +27,7 @@ impl Model for Deferred {
 impl Deferred {
     /// Room for this many, and none deferred.
     pub fn make(alloc: Global, room: u32) -> Result<Deferred, AllocError>
-        ensures { IfOk result (λ q. q ≡ record { items = []; room = room }) }
+        ensures { IfOk result (λ q. q ≡ waits.none_deferred room) }
     {
         Ok(Deferred {
             items: Vec::with_capacity(alloc, room as usize)?,
@@ -43,7 +44,7 @@ impl Deferred {
     /// Defers one more, for which there is room.
     pub fn push(&mut self, m: Ordered)
         requires { length self.old.items < self.old.room }
-        ensures { self.new ≡ record self.old { items = self.old.items ++ m ∷ [] } }
+        ensures { self.new ≡ waits.with_deferred m self.old }
     {
         self.items.push_reserved(m);
     }
