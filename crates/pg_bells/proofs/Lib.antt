@@ -1,0 +1,5 @@
+pub mod HistoryLists
+pub mod Steps
+pub mod Counts
+pub mod Ends
+pub mod Told
