@@ -1,4 +1,4 @@
-ghost use Rattle.std.specs.Prelude.{◌≡◌, ◌<◌, ◌≤◌, ◌+◌, ◌++◌, ◌∷◌, [], length, slice_get, IfSome, IsSome};
+ghost use Rattle.std.specs.Prelude.{◌≡◌, ◌<◌, ◌≤◌, ◌+◌, ◌++◌, ◌∷◌, [], length, slice_get, is_some, IfSome, IsSome};
 ghost use Rattle.pg_controllers.specs.Worlds.{done_of, move};
 ghost use Rattle.pg_table.specs.Pick.{pick};
 ghost use Rattle.pg_block.specs.Fitted.{IsFitted, Continues};
@@ -191,12 +191,20 @@ impl Block {
         at < self.lines.len() && self.lines[at].pending().is_none() && self.programs[at].has_next()
     }
 
+    /// Whether a core has a request in its slot.
+    pub fn has_request(&self, core: u32) -> bool
+        requires { core < length self.now.nets.slots }
+        ensures { result ≡ is_some (blocks.request_slot self.now core) }
+    {
+        self.wires.asked(core).is_some()
+    }
+
     /// Whether a core is there and has a request in its slot, and the directory isn't busy.
     fn can_request(&self, core: u32) -> bool
         requires { length self.now.nets.slots ≡ length self.now.lines }
         ensures { result ≡ blocks.enabled_at (event.Request core) self.now }
     {
-        (core as usize) < self.lines.len() && self.wires.asked(core).is_some() && !self.home.busy()
+        (core as usize) < self.lines.len() && self.has_request(core) && !self.home.busy()
     }
 
     /// Whether a message is there at the head of a core's list, and doesn't wait.

@@ -115,6 +115,10 @@ fn a_load_that_is_late_stands_before_the_store_that_was_done_earlier(
         Step::Txn(1, Event::Store),
         Step::Store(1, 7),
     ];
+    // Two cores with two operations have at most 2 * (2 * 2 + 2) events.
+    assert_eq!(rt; world.journal().len(), 8);
+    assert!(rt; world.journal().len() <= 12);
+    assert_eq!(rt; world.count_enabled(), 0);
     ends_with(&rt, alloc, &world, steps.as_slice())
 }
 
@@ -142,13 +146,38 @@ const OWNER_STORES_AGAIN: &[WorldEvent] = &[
     Issue(0),
 ];
 
-/// The world of MOSI in which an owner that may only read has begun a store, and a third core is still to load.
-fn owner_stores_again(rt: &impl Abort, alloc: Global) -> Result<World, Fail> {
+/// The opening world of MOSI in which a core is to store twice, and two cores are to load.
+fn two_stores_and_two_loads(rt: &impl Abort, alloc: Global) -> Result<World, Fail> {
     let tables = tables_of(rt, alloc, MOSI, Mode::Defer)?;
     let stores = vec![in alloc; Op::Store(1), Op::Store(2)]?;
-    let mut world = three_cores(alloc, tables, stores)?;
+    Ok(three_cores(alloc, tables, stores)?)
+}
+
+/// The world in which an owner that may only read has begun a store, and a third core is still to load.
+fn owner_stores_again(rt: &impl Abort, alloc: Global) -> Result<World, Fail> {
+    let mut world = two_stores_and_two_loads(rt, alloc)?;
     happen(rt, &mut world, OWNER_STORES_AGAIN);
     Ok(world)
+}
+
+/// The most events of three cores with four operations.
+const MOST_EVENTS: u32 = 4 * (2 * 3 + 2);
+
+#[test]
+fn there_is_room_for_each_event_until_all_is_done(rt: HostRuntime) -> Result<(), Fail> {
+    let alloc = rt.alloc();
+    let mut world = two_stores_and_two_loads(&rt, alloc)?;
+    for _ in 0..MOST_EVENTS {
+        if world.count_enabled() == 0 {
+            break;
+        }
+        assert!(rt; !world.finished());
+        assert!(rt; 0 < world.room());
+        let first = world.nth_enabled(0);
+        happen(&rt, &mut world, [first].as_slice());
+    }
+    assert!(rt; world.finished());
+    Ok(())
 }
 
 /// The load comes before the owner's second store.

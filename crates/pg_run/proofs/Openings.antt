@@ -1,6 +1,6 @@
 -- The blocks of a script when nothing has happened.
 use Rattle.std.proofs.Common.{◌≡◌, ℕ, zero, suc, ◌+◌, ◌<◌, ◌≤◌, ◌==◌, ◌&&◌, arith, Bool, true, false, cond, List, [], ◌∷◌, ◌++◌, length, refl, sym, ap, subst, ◌∙◌}
-use Rattle.std.specs.Prelude.{map}
+use Rattle.std.specs.Prelude.{if◌then◌else◌, map}
 use Rattle.std.specs.List.{filter, range_with_len}
 use Rattle.std.proofs.lemmas.Bool.{ne_eqb}
 use Rattle.std.proofs.lemmas.List.{length-map, map-append}
@@ -60,6 +60,22 @@ few_operations s b = few_counted b 0 s.cores s.ops
 
 pub todo_length : (s : Operations) (b : ℕ) → length (todo_on s b) ≡ s.cores
 todo_length s b = length-map-range_with_len (λ c. on_block s c b) 0 s.cores
+
+-- a core's operations on a block are among the lines on the block
+filtered_step : (a b : Bool) (o : ScriptOp) (core : ℕ) (xs ys : List ScriptOp) → (o.core == core) ≡ a → filter (λ (o : ScriptOp). o.core == core) ys ≡ xs
+    → filter (λ (o : ScriptOp). o.core == core) (if b then o ∷ ys else ys) ≡ (if a && b then o ∷ xs else xs)
+filtered_step true true o core xs ys is rest = rw is (ap (λ (zs : List ScriptOp). o ∷ zs) rest)
+filtered_step false true o core xs ys is rest = rw is rest
+filtered_step true false o core xs ys is rest = rest
+filtered_step false false o core xs ys is rest = rest
+
+lines_filtered : (core block : ℕ) (ops : List ScriptOp) → filter (λ (o : ScriptOp). o.core == core) (filter (λ (o : ScriptOp). o.block == block) ops) ≡ filter (is_on core block) ops
+lines_filtered core block [] = refl
+lines_filtered core block (o ∷ ops) =
+    filtered_step (o.core == core) (o.block == block) o core (filter (is_on core block) ops) (filter (λ (o : ScriptOp). o.block == block) ops) refl (lines_filtered core block ops)
+
+pub operations_found : (s : Operations) (core block : ℕ) → map (λ (o : ScriptOp). o.op) (filter (λ (o : ScriptOp). o.core == core) (filter (λ (o : ScriptOp). o.block == block) s.ops)) ≡ on_block s core block
+operations_found s core block = ap (map (λ (o : ScriptOp). o.op)) (lines_filtered core block s.ops)
 
 -- one core more
 pub todo_more : (s : Operations) (b n : ℕ) → map (λ c. on_block s c b) (range_with_len 0 n) ++ on_block s n b ∷ [] ≡ map (λ c. on_block s c b) (range_with_len 0 (n + 1))

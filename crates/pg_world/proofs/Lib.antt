@@ -4,5 +4,6 @@ pub mod Enabled
 pub mod Steps
 pub mod Made
 pub mod Worlds
-pub mod Walks
+pub mod CoresWhere
+pub mod Follows
 pub mod Finished

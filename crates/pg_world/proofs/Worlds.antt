@@ -1,17 +1,19 @@
 -- What a world shows is what its block is.
-use Rattle.std.proofs.Common.{◌≡◌, ℕ, ◌<◌, ◌+◌, ◌*◌, ◌-◌, ◌≤◌, true, false, length, sym, ap, subst, ◌∙◌, nat_eq, arith}
+use Rattle.std.proofs.Common.{◌≡◌, ℕ, ◌<◌, ◌+◌, ◌*◌, ◌-◌, ◌^◌, ◌≤◌, true, false, length, sym, ap, subst, ◌∙◌, nat_eq, arith}
 use Rattle.std.proofs.lemmas.Bool.{and_parts}
+use Rattle.std.proofs.lemmas.Nat.{mul-le}
 use Rattle.pg_table.specs.Pick.{pick}
 use Rattle.pg_messages.specs.declared.messages.WorldEvent.{WorldEvent}
 use Rattle.pg_controllers.specs.Worlds.{is_enabled, has_row}
 use Rattle.pg_safe.specs.Moving.{is_finished}
-use Rattle.pg_reached.proofs.Reached.{event_can_happen, messages_bounded}
+use Rattle.pg_reached.proofs.Reached.{event_can_happen, journal_bounded, messages_bounded}
 use Rattle.pg_block.proofs.Joined.{joined_length}
 use Rattle.pg_world.specs.Enabled.{enabled_events}
 use Rattle.pg_world.proofs.Finished.{finished_is}
 use Rattle.pg_world.proofs.Steps.{journal_room}
 use Rattle.pg_block.specs.Blocks.{Block, CanTell, enabled_at, world_of, given_of}
-use Rattle.pg_world.specs.Kept.{IsKept, WorldView, view_of}
+use Rattle.pg_world.specs.Kept.{IsKept, WorldView, operation_count, view_of}
+use Rattle.pg_world.proofs.Made.{journal_most}
 use Rattle.pg_world.proofs.Ready.{few_cores}
 use Rattle.pg_world.proofs.EnabledIs.{made_at, enabled_is}
 
@@ -52,3 +54,15 @@ replies_few b k =
     let most = messages_bounded b.tables.protocol b.tables.cache (given_of b.programs) (world_of b) k.reached in
     let square = square_few (length (given_of b.programs)) (few_cores b k) in
     omega (arith, most, square)
+
+pub journal_few : (b : Block) → IsKept b → length b.journal < 2 ^ 62
+journal_few b k =
+    let given = given_of b.programs in
+    let most = journal_bounded b.tables.protocol b.tables.cache given (world_of b) k.reached in
+    let all = journal_most given in
+    let ops = k.limits.stamps in
+    let cores = few_cores b k in
+    let each : 2 * length given + 2 ≤ 130 = omega arith in
+    let count : operation_count given ≤ 4294967295 = omega arith in
+    let product = mul-le (operation_count given) (2 * length given + 2) 4294967295 130 count each in
+    omega (arith, most, all, product)

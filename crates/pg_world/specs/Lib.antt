@@ -1,2 +1,4 @@
 pub mod Enabled
+pub mod Indexed
 pub mod Kept
+pub mod Turns

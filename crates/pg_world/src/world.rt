@@ -8,7 +8,7 @@ ghost use Rattle.pg_block.specs.Blocks as blocks;
 ghost use Rattle.pg_world.specs.Kept as kept;
 ghost use Rattle.pg_world.specs.Enabled as events;
 
-use crate::events::event_at;
+use crate::index::{Index, core_in};
 use crate::todo::Todo;
 use pg_block::Block;
 use pg_cache::Line;
@@ -27,16 +27,19 @@ use std::sync::Arc;
 #[derive(Drop)]
 pub struct World {
     block: Block,
+    index: Index,
 }
 
 impl Model for World {
+    ghost use Rattle.std.specs.Prelude.{◌≡◌};
     ghost use Rattle.pg_world.specs.Kept.{WorldView, view_of, IsKept};
+    ghost use Rattle.pg_world.specs.Indexed.{index_of};
 
     ghost Value = { WorldView };
 
     ghost view = { λ w. view_of w.block };
 
-    ghost invariant = { λ w. IsKept w.block };
+    ghost invariant = { λ w. IsKept w.block × (w.index ≡ index_of w.block) };
 }
 
 impl World {
@@ -54,7 +57,15 @@ impl World {
         let programs = todo.into_programs();
         let _draft = tables.protocol().draft();
         let block = Block::make(alloc, tables, programs, ops)?;
-        Ok(World { block })
+        Ok(World::of(block))
+    }
+
+    fn of(block: Block) -> World
+        requires { kept.IsKept block }
+        ensures { result ≡ kept.view_of block }
+    {
+        let index = Index::of(&block);
+        World { block, index }
     }
 
     /// Whether an event can happen now. An event of a core that isn't there, or of a reply that isn't, can't.
@@ -64,23 +75,11 @@ impl World {
         self.block.is_enabled(e)
     }
 
-    #[tactic(auto, using(crate::proofs::Walks::passes, crate::proofs::Walks::fails, crate::proofs::Walks::places))]
     /// How many events are enabled.
     pub fn count_enabled(&self) -> u32
         ensures { result ≡ length (events.enabled_events (pick self.now.tables.cache) self.now.world) }
     {
-        let cores = self.cores();
-        let replies = self.replies();
-        let places = 3 * cores + replies;
-        let mut count = 0;
-        let mut at = 0;
-        while at < places {
-            if self.enabled(event_at(cores, replies, at)) {
-                count += 1;
-            }
-            at += 1;
-        }
-        count
+        self.index.count(self.home().busy(), self.replies())
     }
 
     /// The enabled event at a place among those that are enabled, from 0 on: issues, requests and messages from the directory, each by core, and then
@@ -89,20 +88,7 @@ impl World {
         requires { i < length (events.enabled_events (pick self.now.tables.cache) self.now.world) }
         ensures { slice_get (events.enabled_events (pick self.now.tables.cache) self.now.world) i ≡ Some result }
     {
-        let cores = self.cores();
-        let replies = self.replies();
-        let mut left = i;
-        let mut at = 0;
-        loop {
-            let e = event_at(cores, replies, at);
-            if self.enabled(e) {
-                if left == 0 {
-                    return e;
-                }
-                left -= 1;
-            }
-            at += 1;
-        }
+        self.index.nth(self.home().busy(), self.replies(), i)
     }
 
     /// An event that is enabled happens, and is noted in the journal with the number of the seat that made it.
@@ -110,8 +96,10 @@ impl World {
         requires { worlds.is_enabled (pick self.old.tables.cache) self.old.world e ≡ true }
         ensures { self.new ≡ record self.old { world = worlds.step self.old.tables.protocol (pick self.old.tables.cache) self.old.world (by, e) } }
     {
+        let core = core_in(&self.block, e);
         self.block.happen(e);
         self.block.note(by, e);
+        self.index.follow(&self.block, e, core);
     }
 
     /// That the world is reached by its journal.

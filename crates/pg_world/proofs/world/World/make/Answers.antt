@@ -3,14 +3,15 @@ use Rattle.pg_perm.specs.Drafts.{IsWellFormed}
 use Rattle.pg_shape.specs.Shaped.{IsShaped}
 use Rattle.pg_table.specs.Tables.{Parts}
 use Rattle.pg_table.specs.Sound.{IsSound}
+use Rattle.pg_world.specs.Kept.{WorldView}
 use Rattle.pg_world.proofs.Made.{made_kept, made_opens, made_room, few_programs}
 use Rattle.pg_world.proofs.world.World.make.Goals as goal
 
 pub make-requires-clause-few : goal.make-requires-clause-few
 make-requires-clause-few c = few_programs c.into_programs-programs.result.items c.args.todo c.into_programs-programs.ensures.given c.requires.few
 
-pub invariant_of-result : goal.invariant_of-result
-invariant_of-result c =
+pub of-requires : goal.of-requires
+of-requires c =
     let is = c.protocol.ensures.exact ∙ ap (λ (t : Parts). t.protocol) c.deref.ensures in
     let made = c.in_ok-block.ensures in
     made_kept c.in_ok-block.block c.args.tables.value c.into_programs-programs.result.items c.args.todo c.operations-ops.result
@@ -20,8 +21,10 @@ invariant_of-result c =
 pub returns-clause-opening : goal.returns-clause-opening
 returns-clause-opening c =
     let made = c.in_ok-block.ensures in
-    made_opens c.in_ok-block.block c.args.tables.value c.into_programs-programs.result.items c.args.todo made.tables made.programs made.new c.into_programs-programs.ensures.given c.into_programs-programs.ensures.whole
+    ap (λ (v : WorldView). v.world) c.of.ensures
+    ∙ made_opens c.in_ok-block.block c.args.tables.value c.into_programs-programs.result.items c.args.todo made.tables made.programs made.new c.into_programs-programs.ensures.given c.into_programs-programs.ensures.whole
 
 pub returns-clause-room : goal.returns-clause-room
 returns-clause-room c =
-    made_room c.in_ok-block.block c.into_programs-programs.result.items c.args.todo c.operations-ops.result c.in_ok-block.ensures.limits c.into_programs-programs.ensures.given c.operations-ops.ensures
+    ap (λ (v : WorldView). v.limit) c.of.ensures
+    ∙ made_room c.in_ok-block.block c.into_programs-programs.result.items c.args.todo c.operations-ops.result c.in_ok-block.ensures.limits c.into_programs-programs.ensures.given c.operations-ops.ensures
