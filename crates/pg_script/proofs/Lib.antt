@@ -10,3 +10,4 @@ pub mod Progress
 pub mod Joining
 pub mod Bytes
 pub mod Short
+pub mod Drills

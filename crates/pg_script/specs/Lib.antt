@@ -6,4 +6,5 @@ pub mod ScriptFaults
 pub mod Texts
 pub mod Printing
 pub mod Answers
+pub mod Drills
 pub mod Worked

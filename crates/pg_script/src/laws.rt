@@ -10,6 +10,7 @@ ghost use Rattle.pg_script.specs.Scripts.{Operations, IsWithin, on_block};
 ghost use Rattle.pg_script.specs.ScriptFaults.{IsScriptFault};
 ghost use Rattle.pg_script.specs.Texts.{reading, IsScript};
 ghost use Rattle.pg_script.specs.Printing.{lines_in, script_text, IsTextOf};
+ghost use Rattle.pg_script.specs.Drills.{IsDrill, drill_operations};
 ghost use Rattle.pg_script.specs.Worked.{worked_operations};
 
 use pg_perm::{Op, Rule};
@@ -89,4 +90,45 @@ pub fn worked_first_faults()
     ensures word_behind_done { reading (codes "cores 1\nblocks 1\ndone now\n") ≡ Err (record { line = 3; rule = Rule.C1 }) }
     ensures newline_behind { reading (codes "cores 1\nblocks 1\ndone\n\n") ≡ Err (record { line = 4; rule = Rule.C5 }) }
     ensures two_lines { reading (codes "cores 1\nblocks 1\nop 1 load 0\nop 0 load\n") ≡ Err (record { line = 3; rule = Rule.C2 }) }
+{}
+
+/// The script of a drill is within the bounds and has as many operations as are asked for.
+pub fn drills_are_within_the_bounds()
+    ensures within { (seed cores blocks ops : ℕ) → IsDrill cores blocks ops → IsWithin (drill_operations seed cores blocks ops) }
+    ensures count { (seed cores blocks ops : ℕ) → length (drill_operations seed cores blocks ops).ops ≡ ops }
+{}
+
+/// The first operations of drills. Those of seed 5 have all kinds, with the least and the largest draw of each but 0 and 5.
+pub fn worked_drills()
+    ensures small { script_text (drill_operations 1 1 1 2) ≡ codes "cores 1\nblocks 1\nop 0 store 0 1\nop 0 load 0\ndone\n" }
+    ensures seed_zero { (drill_operations 0 2 2 4).ops
+        ≡ record { core = 1; block = 0; op = Op.Load }
+        ∷ record { core = 0; block = 1; op = Op.Load }
+        ∷ record { core = 0; block = 1; op = Op.Load }
+        ∷ record { core = 1; block = 1; op = Op.Load }
+        ∷ [] }
+    ensures seed_one { (drill_operations 1 4 8 5).ops
+        ≡ record { core = 2; block = 1; op = Op.Store 1 }
+        ∷ record { core = 2; block = 2; op = Op.Load }
+        ∷ record { core = 2; block = 6; op = Op.Load }
+        ∷ record { core = 2; block = 3; op = Op.Load }
+        ∷ record { core = 0; block = 0; op = Op.Load }
+        ∷ [] }
+    ensures all_kinds { (drill_operations 5 2 2 8).ops
+        ≡ record { core = 0; block = 1; op = Op.Load }
+        ∷ record { core = 1; block = 1; op = Op.Load }
+        ∷ record { core = 1; block = 1; op = Op.Load }
+        ∷ record { core = 0; block = 1; op = Op.Load }
+        ∷ record { core = 0; block = 1; op = Op.Load }
+        ∷ record { core = 1; block = 0; op = Op.Evict }
+        ∷ record { core = 0; block = 0; op = Op.Store 7 }
+        ∷ record { core = 0; block = 0; op = Op.Load }
+        ∷ [] }
+    ensures largest { (drill_operations 7 32 64 5).ops
+        ≡ record { core = 30; block = 63; op = Op.Load }
+        ∷ record { core = 17; block = 41; op = Op.Load }
+        ∷ record { core = 8; block = 20; op = Op.Load }
+        ∷ record { core = 22; block = 3; op = Op.Load }
+        ∷ record { core = 0; block = 48; op = Op.Store 5 }
+        ∷ [] }
 {}

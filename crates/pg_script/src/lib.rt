@@ -3,6 +3,7 @@
 //! docs/SCRIPTS.md has the form of a script and the rules C1 to C5.
 #![tactic(auto)]
 
+mod drill;
 mod error;
 mod laws;
 mod numbers;
@@ -13,10 +14,12 @@ mod script;
 mod statement;
 mod text;
 
+pub use drill::drill_script;
 pub use error::ScriptError;
 pub use laws::{
-    first_fault_is_exact, forms_are_exact, operations_go_by_core_and_block, printing_is_exact,
-    scripts_are_kept, worked_first_faults, worked_scripts,
+    drills_are_within_the_bounds, first_fault_is_exact, forms_are_exact,
+    operations_go_by_core_and_block, printing_is_exact, scripts_are_kept, worked_drills,
+    worked_first_faults, worked_scripts,
 };
 pub use numbers::number_of;
 pub use printer::print;

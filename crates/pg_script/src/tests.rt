@@ -252,3 +252,50 @@ fn operations_of_a_block_stand_in_line_order(rt: HostRuntime) -> Result<(), Fail
     }
     Ok(())
 }
+
+/// A seed, how many cores, blocks and operations, and the text of the script.
+type Drawn = (u64, (u32, u32, u32), &'static str);
+
+const DRAWN: &[Drawn] = &[
+    (
+        1,
+        (1, 1, 2),
+        "cores 1\nblocks 1\nop 0 store 0 1\nop 0 load 0\ndone\n",
+    ),
+    (
+        0,
+        (4, 8, 5),
+        "cores 4\nblocks 8\nop 3 load 0\nop 0 load 5\nop 0 load 7\nop 3 load 7\nop 2 store 5 5\ndone\n",
+    ),
+    (
+        18446744073709551615,
+        (3, 5, 5),
+        "cores 3\nblocks 5\nop 1 store 3 1\nop 2 load 4\nop 0 load 2\nop 2 load 3\nop 2 store 3 5\ndone\n",
+    ),
+    (
+        7,
+        (32, 64, 5),
+        "cores 32\nblocks 64\nop 30 load 63\nop 17 load 41\nop 8 load 20\nop 22 load 3\nop 0 store 48 5\ndone\n",
+    ),
+];
+
+#[test]
+fn drills_are_drawn_from_their_seed(rt: HostRuntime) -> Result<(), Fail> {
+    let alloc = rt.alloc();
+    for (seed, (cores, blocks, ops), wanted) in DRAWN {
+        assert!(rt; 1 <= *cores && *cores <= 32);
+        assert!(rt; 1 <= *blocks && *blocks <= 64);
+        assert!(rt; 1 <= *ops && *ops <= 16384);
+        let script = drill_script(alloc, *seed, *cores, *blocks, *ops)?;
+        let text = print(alloc, &script)?;
+        assert_eq!(rt; text.as_slice(), wanted.as_bytes(), "seed {seed}");
+    }
+    Ok(())
+}
+
+#[test]
+fn the_largest_drill_is_drawn(rt: HostRuntime) -> Result<(), Fail> {
+    let script = drill_script(rt.alloc(), 7, 32, 64, 16384)?;
+    assert_eq!(rt; script.ops().len(), 16384);
+    Ok(())
+}

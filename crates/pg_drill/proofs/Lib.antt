@@ -1,0 +1,4 @@
+pub mod Texts
+pub mod Lengths
+pub mod Counts
+pub mod Atomic
