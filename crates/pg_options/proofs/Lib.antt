@@ -1,0 +1,7 @@
+mod Commands
+mod Cuts
+mod Firsts
+mod Plain
+mod Parses
+mod Spells
+mod Walks
