@@ -1,13 +1,15 @@
 -- Options that were read spell their words.
 use Rattle.std.proofs.Common.{◌≡◌, inl, inr, ℕ, Bool, true, false, ◌==◌, List, [], ◌∷◌, ◌++◌, Option, Some, None, option_map, codes, if◌then◌else◌, refl, sym, ap, ap₂, subst, ◌∙◌, arith}
+use Rattle.std.specs.Option.{option_and_then}
 use Rattle.std.specs.Str.{bytes_eq}
 use Rattle.pg_perm.specs.Vocabularies.{find_word}
 use Rattle.pg_options.specs.declared.names.OptionName.{OptionName}
+use Rattle.pg_options.specs.declared.names.OptionName.TheVariants as option
 use Rattle.pg_options.specs.Names.{option_names, option_word}
-use Rattle.pg_options.specs.Options.{Given, cut, option_of, with_first, given_in, first_in_two, first_by_cut, first_given}
+use Rattle.pg_options.specs.Options.{Given, cut, option_of, with_first, given_in, first_in_two, first_by_cut, first_given, command_name, command_if_right, command_of}
 use Rattle.std.proofs.lemmas.Slice.Eq.{bytes_eq-Decides}
 use Rattle.pg_options.specs.Rule.{Gives, Spell}
-use Rattle.pg_options.proofs.Firsts.{First, given_by, first_is}
+use Rattle.pg_options.proofs.Firsts.{First, given_by, first_is, next}
 
 some_eq : {X : Type 0} (x y : X) → Some x ≡ Some y → x ≡ y
 some_eq x y e = cc
@@ -102,3 +104,31 @@ spelled [] [] e = refl
 spelled [] (w ∷ ws) e = absurd (none_left (first_given (w ∷ ws)) (sym (first_is w ws) ∙ e))
 spelled (g ∷ gs) [] e = cc
 spelled (g ∷ gs) (w ∷ ws) e = at_first w ws g gs (spelled gs) (first_given (w ∷ ws)) refl (sym (first_is w ws) ∙ e)
+
+-- and words that spell options are read as these
+
+two_words : (o : OptionName) (value : List ℕ) (rest : List (List ℕ)) → first_given (option_word o ∷ value ∷ rest) ≡ Some (named o value, rest)
+two_words option.Mode value rest = refl
+two_words option.Seed value rest = refl
+two_words option.Cores value rest = refl
+two_words option.Blocks value rest = refl
+two_words option.Ops value rest = refl
+
+one_word : (o : OptionName) (value : List ℕ) (rest : List (List ℕ)) → first_given ((option_word o ++ codes "=" ++ value) ∷ rest) ≡ Some (named o value, rest)
+one_word option.Mode value rest = refl
+one_word option.Seed value rest = refl
+one_word option.Cores value rest = refl
+one_word option.Blocks value rest = refl
+one_word option.Ops value rest = refl
+
+first_spelled : (g : Given) (words rest : List (List ℕ)) → Gives g words rest → first_given words ≡ Some (g, rest)
+first_spelled g words rest (inl is) = ap first_given is ∙ two_words g.option g.value rest
+first_spelled g words rest (inr is) = ap first_given is ∙ one_word g.option g.value rest
+
+pub read_as : (gs : List Given) (words : List (List ℕ)) → Spell gs words → given_in words ≡ Some gs
+read_as [] words is = ap given_in is
+read_as (g ∷ gs) words (rest, first, others) = next words g rest (sym (first_spelled g words rest first)) ∙ ap (with_first (Some g)) (read_as gs rest others)
+
+pub read_alike : (name : List ℕ) (gs : List Given) (words others : List (List ℕ)) → Spell gs words → Spell gs others → command_of (name ∷ words) ≡ command_of (name ∷ others)
+read_alike name gs words others a b =
+    ap (λ (read : Option (List Given)). option_and_then (λ c. option_and_then (command_if_right c) read) (command_name name)) (read_as gs words a ∙ sym (read_as gs others b))

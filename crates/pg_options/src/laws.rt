@@ -1,11 +1,20 @@
 //! The laws on words and commands.
 
-ghost use Rattle.std.specs.Prelude.{◌≡◌, ℕ, List, [], ◌∷◌, codes, Option, Some, None};
+ghost use Rattle.std.specs.Prelude.{◌≡◌, ◌↔◌, ℕ, List, [], ◌∷◌, codes, Option, Some, None};
 ghost use Rattle.pg_perm.specs.declared.kinds.Mode.TheVariants as mode;
 ghost use Rattle.pg_options.specs.declared.command.Command.TheVariants.{Text, Drill};
 ghost use Rattle.pg_options.specs.declared.command.Task.TheVariants.{Check, Compile, Run};
 ghost use Rattle.pg_options.specs.declared.command.Machine.TheVariants.{Atomic, Controllers};
-ghost use Rattle.pg_options.specs.Options.{command_of};
+ghost use Rattle.pg_options.specs.Options.{Given, given_in, command_of};
+ghost use Rattle.pg_options.specs.Rule.{Spell};
+
+/// Words are read as options exactly where they spell these, one after another, each as two words or as one. So it makes no difference how they are
+/// spelled.
+pub fn options_are_spelled()
+    ensures read { (gs : List Given) (words : List (List ℕ)) → (given_in words ≡ Some gs) ↔ Spell gs words }
+    ensures alike { (name : List ℕ) (gs : List Given) (words others : List (List ℕ)) → Spell gs words → Spell gs others
+        → command_of (name ∷ words) ≡ command_of (name ∷ others) }
+{}
 
 /// What words ask for, as a person reads them: an option that isn't given has its default, and the order of options and their spelling make no difference.
 pub fn worked_commands()

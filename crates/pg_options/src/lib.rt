@@ -11,7 +11,7 @@ mod parser;
 mod rule;
 
 pub use command::{Command, Drill, Machine, Task, command_of};
-pub use laws::{worked_commands, worked_refusals};
+pub use laws::{options_are_spelled, worked_commands, worked_refusals};
 pub use names::{CommandName, OptionName};
 pub use rule::taken;
 
