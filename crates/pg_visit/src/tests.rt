@@ -131,7 +131,7 @@ fn visit_often<R: Wait>(
     ensures { IsOf turn.now result × (is_holding result ≡ false) × (result.number ≡ pass.number) }
 {
     for _ in 0..visits {
-        visit(rt, turn, &mut pass);
+        let _ = visit(rt, turn, &mut pass);
     }
     pass
 }

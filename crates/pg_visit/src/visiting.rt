@@ -1,9 +1,10 @@
-ghost use Rattle.std.specs.Prelude.{◌≡◌, ◌++◌, ◌∷◌, [], true, false, IfSome};
+ghost use Rattle.std.specs.Prelude.{◌≡◌, ◌++◌, ◌∷◌, [], true, false, IfSome, IfNone};
 ghost use Rattle.pg_table.specs.Pick.{pick};
 ghost use Rattle.pg_controllers.specs.Worlds.{is_enabled};
+ghost use Rattle.pg_safe.specs.Moving.{is_finished};
 ghost use Rattle.pg_turn.specs.Passes.{IsOf, first_value, is_holding, made_by, seen_by};
 ghost use Rattle.pg_world.specs.Turns.{root_of, journal_of};
-ghost use Rattle.pg_visit.specs.Visits.{IsOneMore};
+ghost use Rattle.pg_visit.specs.Visits.{IsOneMore, SawFinished};
 
 use pg_messages::WorldEvent;
 use pg_turn::{Kept, Pass, Turn};
@@ -36,31 +37,40 @@ pub fn step_and_give(turn: &Turn<World>, pass: &mut Pass<World>, mut world: Worl
     turn.give(pass, world);
 }
 
-#[tactic(auto, using(crate::proofs::Steps::first_enabled))]
+/// The first enabled event, or none where the world is finished.
 fn first_enabled(world: &World) -> Option<WorldEvent>
-    ensures { IfSome result (λ e. is_enabled (pick world.now.tables.cache) world.now.world e ≡ true) }
+    ensures some { IfSome result (λ e. is_enabled (pick world.now.tables.cache) world.now.world e ≡ true) }
+    ensures none { IfNone result (is_finished world.now.world ≡ true) }
 {
-    if world.count_enabled() > 0 {
-        Some(world.nth_enabled(0))
-    } else {
+    let _journal = world.journal();
+    if world.finished() {
         None
+    } else {
+        Some(world.nth_enabled(0))
     }
 }
 
-/// Waits for the turn of a block's world, makes its first enabled event happen where there is one, and gives the world back.
-pub fn visit<R: Wait>(rt: &R, turn: &Turn<World>, pass: &mut Pass<World>)
+/// Waits for the turn of a block's world, makes its first enabled event happen where there is one, and gives the world back. Answers whether there was
+/// one: where not, the world that was taken is finished.
+pub fn visit<R: Wait>(rt: &R, turn: &Turn<World>, pass: &mut Pass<World>) -> bool
     requires pass { IsOf turn.now pass.old }
     requires idle { is_holding pass.old ≡ false }
     ensures pass { IsOf turn.now pass.new }
     ensures idle { is_holding pass.new ≡ false }
     ensures number { pass.new.number ≡ pass.old.number }
-    ensures events { IsOneMore pass.old.number (made_by pass.old) (made_by pass.new) }
+    ensures stepped { result ≡ true → IsOneMore pass.old.number (made_by pass.old) (made_by pass.new) }
+    ensures quiet { result ≡ false → (made_by pass.new ≡ made_by pass.old) × SawFinished (root_of (first_value turn.now)) (seen_by pass.new) }
 {
     let world = turn.take(rt, pass);
-    if let Some(e) = first_enabled(&world) {
-        step_and_give(turn, pass, world, e);
-    } else {
-        let _short = world.count();
-        turn.give(pass, world);
+    match first_enabled(&world) {
+        Some(e) => {
+            step_and_give(turn, pass, world, e);
+            true
+        }
+        None => {
+            let _short = world.count();
+            turn.give(pass, world);
+            false
+        }
     }
 }
